@@ -26,7 +26,7 @@ run: $(call built,$(CPU)) ## proves and builds the programs, into bin/; then a f
 	@printf password | bin/argon2 somesalt -d -t 1 -k 8 -e
 
 # There is no unproved build. A rule with several targets runs once for all of them.
-$(addprefix bin/%/,$(PROGRAMS)): $(SOURCES) packaging/link.sh packaging/programs
+$(addprefix bin/%/,$(PROGRAMS)): $(SOURCES) packaging/link.sh packaging/programs packaging/untraced.c
 	@packaging/build.sh $*
 
 lib: bin/lib/libpikhsen.so.0 ## proves and builds the library for C, in bin/lib/

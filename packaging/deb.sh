@@ -98,7 +98,7 @@ names=$(cut -d' ' -f1 packaging/programs)
 {
     echo '# These are the bytes that the tests ran.'
     printf 'unstripped-binary-or-object [usr/bin/%s]\n' $names
-    echo '# Of C they have only the heap, in which there is nothing to fortify.'
+    echo '# Of C they have only the heap and one call more, in which there is nothing to fortify.'
     printf 'hardening-no-fortify-functions [usr/bin/%s]\n' $names
     echo '# POSIX has it since 2024, and the shells that may be /bin/sh had it before.'
     echo "bash-term-in-posix-shell 'ulimit' [usr/bin/scrypt-ask:*]"

@@ -124,7 +124,7 @@ def programs_are_built(checks, room, level):
     room.write("host", f"for {level}\n")
     status, _ = room.run("packaging/build.sh", level, umask=0o077)
     checks.that(f"build.sh {level}", (status, room.modes(built)), (0, ["0o755"] * len(built)))
-    outs = [it.replace("the heap of the kit", "the heap") for it in room.texts(*OUTS) if it]
+    outs = [it.replace("the heap of the kit", "heap.c\nuntraced.c") for it in room.texts(*OUTS) if it]
     checks.that(f"build.sh {level}: the programs", room.texts(*built), outs)
     checks.that(f"build.sh {level}: those in bin/ stay", room.texts("bin/level", *CHOSEN), here)
     begun = {(room.top / it).stat().st_mtime for it in [*built, f"bin/{level}/began"]}

@@ -74,12 +74,12 @@ if words[0] == "run":
 note("end")
 sys.exit(words[0] == "run")
 '''
-# The kit: it links files by putting their texts one after the other, and compiles the heap to a text; and what it links
+# The kit: it links files by putting their texts one after the other, and compiles a file in C to its name; and what it links
 # beside that.
 KIT = {
     "bin/rt": STAND_IN,
     "bin/rattle-link": '#!/bin/sh\nwhile test "$1" != -o; do shift; done\nto=$2\nshift 2\ncat "$@" >"$to" && chmod 755 "$to"\n',
-    "toolchain/bin/clang": '#!/bin/sh\nwhile test "$1" != -o; do shift; done\necho "the heap" >"$2"\n',
+    "toolchain/bin/clang": '#!/bin/sh\nwhile test "$1" != -o; do shift; done\necho "${3##*/}" >"$2"\n',
     "c/libos_c.a": "calls of the system\n", "c/liblibc_c.a": "the heap of the kit\n",
 }
 # Scripts that make check runs.

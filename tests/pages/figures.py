@@ -80,11 +80,11 @@ def sentences():
     loads = sorted(float(row["load"]) for row in PRINTED.values())
     of_files = {level: " and ".join(PRINTED[f"{it}, --logN 14, MiB", "100", level]["ratio"] for it in ("enc", "dec"))
                 for level in (V2, V3)}
-    heap = f"`packaging/heap.c`, {len(read('packaging/heap.c').splitlines())} lines"
+    heap, untraced = (f"`packaging/{it}.c`, {len(read(f'packaging/{it}.c').splitlines())} lines" for it in ("heap", "untraced"))
     return {
         "docs/GATE.md": [heap],
         "README.md": [
-            heap,
+            heap, untraced,
             f"hashes {times('hashes')}, keys {times('keys')}",
             f"{of_g[0]} to {of_g[-1]} without SHA instructions, {with_sha} with",
             f"hashes from 4 MiB on, `-p 4` | 1 (threads) | {least:.1f} to {most:.1f} |",

@@ -1,7 +1,7 @@
 #!/usr/bin/env python3
 """Runs the built programs over a system that refuses: each request for memory, alone and from there on, each that is
 too large, all memory above a limit, and each call, which fails, is interrupted, or comes short. And looks at the
-memory of a hash or a key when it is freed: it holds zeros.
+memory of a hash or a key when it is freed: it holds zeros; and at a program from another process of the same user.
 
     tests/programs/hostile.py FOLDER      in which the programs argon2, argon2-verify and scrypt lie
 
@@ -17,14 +17,16 @@ import os
 import pathlib
 import resource
 import shutil
+import signal
 import subprocess
 import sys
 import tempfile
 import threading
+import time
 from dataclasses import dataclass
 
 sys.path += map(str, pathlib.Path(__file__).resolve().parents[1].iterdir())  # the other folders of tests/
-from checking import compiled, is_there, over_programs
+from checking import compiled, is_there, left_out, over_programs
 from scrypt_files import COSTS, ENVIRONMENT, F0, F5, FILES, FIXED, FROM_PW, HEADER, LINES, SALT, of_costs
 
 # The status of a refusal, and that of want of memory.
@@ -210,8 +212,9 @@ def file_of_no_text(log_n):
 
 
 F_MIB = file_of_no_text(13)
-# Runs, and the bytes of the matrix or of the table: 128 N, or 128 N / S. From 2 MiB on they begin at a huge page.
-LARGE_REQUESTS = [
+# Runs, and the bytes that are requested for the matrix or for the table, of 128 N, or 128 N / S: from 2 MiB on 2 MiB more, since
+# it begins at a huge page.
+LARGE_REQUESTS = [(run, size + (size >> 21 > 0) * (2 << 20)) for run, size in [
     *((Run("argon2", words, b"password", text), size) for words, text, size in (
         ("somesalt -d -t 1 -k 1024 -e", HASHES["hash-1024"], 1 << 20),
         ("somesalt -d -t 1 -k 1024 -r", b"2e2e5e05fe57ac2cf472ecd045ef687e562a980fd50339b389c870e1962bbc45\n", 1 << 20),
@@ -226,7 +229,7 @@ LARGE_REQUESTS = [
                                   (13, F_MIB, {"": 1 << 20, "--keep 4": 1 << 18}))
       for words, given, made in ((f"enc --logN {log_n} -r 1 -p 1 --salt {SALT}", b"", file), ("dec", file, b""))
       for keep, table in tables.items()),
-]
+]]
 INFO = Run("scrypt", "info -", F_MIB, b"N = 8192; r = 1; p = 1; memory = 1048576; cores = 32768\n")
 
 
@@ -383,6 +386,67 @@ def no_other_calls(checks, system):
     checks.that("a named pipe is not brought to the disk", (ran.returncode, ran.stdout, log.read_bytes()), (0, F5, b""))
 
 
+# Traces a process for a moment, and opens its memory: says 0 of each, or the error.
+LOOKING = """#include <errno.h>
+#include <fcntl.h>
+#include <stdio.h>
+#include <stdlib.h>
+#include <sys/ptrace.h>
+int main(int count, char **words)
+{
+    char memory[64];
+    snprintf(memory, sizeof memory, "/proc/%s/mem", words[1]);
+    printf("%d ", ptrace(PTRACE_SEIZE, atoi(words[1]), NULL, NULL) == 0 ? 0 : errno);
+    return !printf("%d\\n", open(memory, O_RDONLY) >= 0 ? 0 : errno);
+}
+"""
+# What another user than root does with the program, by names of descriptors, and what is written then.
+BY_DESCRIPTORS = (
+    "cat pw | ../scrypt enc --logN 4 -r 1 -p 1 --passphrase file:/dev/stdin hash made",
+    "cat made | ../scrypt dec --passphrase file:/proc/self/fd/5 /dev/stdin /dev/stdout 5<pw | cmp - hash",
+    "cat made | ../scrypt dec --passphrase file:/dev/fd/5 /proc/self/fd/0 5<pw | cmp - hash",
+    "printf password | ../argon2-verify /proc/self/fd/5 5<hash",
+)
+
+
+def kept_from_others(checks, folder, *programs):
+    """Another process of the same user can't look into a program that waits for its input, and SIGABRT leaves no core file of
+    it; but it opens its own descriptors by their names. The user is not root, who may do all."""
+    user = ["setpriv", "--reuid=65534", "--regid=65534", "--clear-groups"] if os.geteuid() == 0 else []
+    if user and not is_there("setpriv", "who may look into a program is not asked"):
+        return
+    room, looking = pathlib.Path(folder, "others"), f"{folder}/looking"
+    compiled(LOOKING, looking, "-w")
+    room.mkdir()
+    os.chmod(folder, 0o755)
+    os.chmod(room, 0o777)
+    for name, text in (("hash", HASHES["hash-1024"]), ("pw", b"a\n")):
+        (room / name).write_bytes(text)
+    for it in programs:
+        shutil.copy(it, folder)
+    seen = {}
+    for words in ("sleep 60", "../argon2 somesalt -e", "../argon2-verify hash", "../scrypt dec --passphrase file:pw -"):
+        name = words.split()[0].removeprefix("../")
+        shell = [*user, "sh", "-c", f"ulimit -c unlimited; exec {words}"]
+        with subprocess.Popen(shell, stdin=subprocess.PIPE, cwd=room, env=ENVIRONMENT) as run:
+            while f"({name}) S " not in pathlib.Path(f"/proc/{run.pid}/stat").read_text(encoding="ascii"):
+                time.sleep(0.01)  # until it waits
+            looked = subprocess.run([*user, looking, str(run.pid)], stdout=subprocess.PIPE, text=True, check=True).stdout.split()
+            run.send_signal(signal.SIGABRT)
+            status = run.wait()
+        cores = [it.unlink() for it in room.iterdir() if it.name not in ("hash", "pw")]
+        seen[name] = *(it == "0" for it in looked), len(cores)
+        checks.that(f"{name} ends by SIGABRT", status, -signal.SIGABRT)
+    for what, *each in zip(("traced", "read", "left in a core file"), *seen.values()):
+        if each[0]:  # sleep is
+            checks.that(f"a program is {what}", dict(zip(seen, each)), {it: each[0] * (it == "sleep") for it in seen})
+        else:
+            left_out(f"no process of the user is {what} here", "programs neither", len(programs))
+    for line in BY_DESCRIPTORS:
+        found = subprocess.run([*user, "sh", "-c", line], capture_output=True, cwd=room, env=ENVIRONMENT)
+        checks.that(f"as another user: {line}", (found.returncode, found.stdout, found.stderr), (0, b"", b""))
+
+
 def main(checks, folder, argon2, verify, scrypt):
     with concurrent.futures.ThreadPoolExecutor(os.cpu_count()) as threads:
         library = os.path.join(folder, "hostile_system.so")
@@ -399,6 +463,7 @@ def main(checks, folder, argon2, verify, scrypt):
                     checks.that(f"each {only} refused: {run.name}", *refused_looks(system, run, only, error))
             for part in (largest_requests, freed_blocks, salts, nothing_is_opened):
                 part(checks, system)
+            kept_from_others(checks, folder, argon2, verify, scrypt)
         for run, limited in [(run, threads.submit(limits, system, run)) for run in RUNS]:
             checks.that(f"memory limited: {run.name}", limited.result(), (["plain"], []))
         no_other_calls(checks, system)

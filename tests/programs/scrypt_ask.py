@@ -417,10 +417,11 @@ def signals_while_scrypt_works(room):
 def what_it_tells(room):
     """How far a long run is, at a terminal that can erase lines, but not in the background; it is erased at the end, also
     after a message or a signal. Nothing of a short run, without such a terminal, or where standard error is a file."""
-    room.clear(letters=bytes(10128), go=None)
+    room.clear(letters=bytes(10128), long=bytes(9999), go=None)
     go = open(os.open(room.folder / "go", os.O_RDWR), "w", buffering=1, encoding="utf-8")
-    key, half = (f"({re.escape(BELOW)}{line}{re.escape(BACK)})+"
-                 for line in (r"deriving the key: [1-9]\d? MiB, \d+ s", r"(0|49|50) %, 0 MiB, 0 MiB/s, \d+ s left"))
+    key, half, unseen = (
+        f"({re.escape(BELOW)}{line}{re.escape(BACK)})+"
+        for line in (r"deriving the key: [1-9]\d? MiB, \d+ s", r"(0|49|50) %, 0 MiB, 0 MiB/s, \d+ s left", r"the file: \d+ s"))
     # on a machine with much work it may look before the table is there
     end, whole, sleeping = re.escape(ERASED), f"({half})?{key}{half}", "PATH=../sleeping:$PATH; exec"
 
@@ -428,14 +429,15 @@ def what_it_tells(room):
         return room.begin(f"enc {words}", "a\n", "a\n", script="slow/scrypt-ask", before=sleeping, terminal=terminal)
 
     for words, last, kind, expected in (
-        *((it, "ends", "xterm", whole + end) for it in ("letters out", "- out <letters", "letters >/dev/null")),
+        *((it, "ends", "xterm", whole + end) for it in ("letters out", "- out <letters", "letters >>long")),
+        ("letters >/dev/null", "ends", "xterm", f"({unseen})?{key}{unseen}{end}"),
         ("letters out", "fails", "xterm", f"{whole}scrypt: fails\r\n({half})?{end}"),
         ("letters out 2>said", "ends", "xterm", ""), ("letters out", "ends", "dumb", ""),
     ):
         terminal = begin(words, kind)
-        for order, told in (("goes", "deriving"), (last, "(49|50) %")):
+        for order, told in (("goes", "deriving"), (last, "(49|50) %|the file")):
             if expected:
-                terminal.until(lambda: re.search(f"{told}[^\n]*{re.escape(BACK)}$", terminal.shown), told)
+                terminal.until(lambda: re.search(f"({told})[^\n]*{re.escape(BACK)}$", terminal.shown), told)
             else:
                 time.sleep(0.12)
             print(order, file=go)

@@ -1,8 +1,8 @@
 #!/bin/sh
 # What a reader of the sources relies on, beside the proofs, and calls.py cannot see in compiled code: proofs by hand are
 # listed in docs/GATE.md; no comment goes over lines; what is unsafe stands in files that are compared whole; and so do all
-# files of the programs, of which no compiled code is kept, and of the crate that calls the system, the zeros over the stack,
-# the box of a stream, and the lists that are wiped. (Who has read one again: sha256sum FILE.)
+# files of the programs, of which no compiled code is kept, also those in C, and of the crate that calls the system, the zeros
+# over the stack, the box of a stream, and the lists that are wiped. (Who has read one again: sha256sum FILE.)
 set -eu
 cd "$(dirname "$0")/../.."
 status=0
