@@ -15,7 +15,7 @@ import sys
 sys.path += map(str, pathlib.Path(__file__).resolve().parents[1].iterdir())  # the other folders of tests/
 import binaries
 from compat_openssl import REFUSING, openssl_of
-from checking import compiled, is_there, left_out, over_library, ran, said
+from checking import HEAPS, compiled, is_there, left_out, over_library, ran, said
 from shown import STORED
 from tree import TOP
 
@@ -261,8 +261,10 @@ def beside_debians(checks, file):
 
 
 # Refuses each request for memory in turn: the answer must be MEMORY_ALLOCATION_ERROR, with nothing written and all freed.
-# After a call that works its tag, which is kept turned round, must not be on the stack below the caller's frame.
+# After a call that works its tag, which is kept turned round, must not be on the stack below the caller's frame. And each
+# call works in a thread whose stack has 64 KiB.
 CALLS_OF_C = """#include <argon2.h>
+#include <pthread.h>
 #include <stdio.h>
 #include <string.h>
 #include "refusing.h"
@@ -297,8 +299,23 @@ static __attribute__((noinline)) int is_left(void)
     }
     return 0;
 }
+static void *in_thread(void *which)
+{
+    return (void *)(long)called((long)which);
+}
 int main(void)
 {
+    pthread_attr_t small;
+    pthread_t thread;
+    pthread_attr_init(&small);
+    pthread_attr_setstacksize(&small, 64 << 10);
+    for (long which = 0; which < 5; which += 1) {
+        void *answer = &small;
+        pthread_create(&thread, &small, in_thread, (void *)which);
+        pthread_join(thread, &answer);
+        if (answer != ARGON2_OK)
+            return 2;
+    }
     for (int which = 0; which < 5; which += 1)
         for (long requests = 0, answer = 1; answer != ARGON2_OK; requests += 1) {
             granted = requests;
@@ -326,7 +343,75 @@ def calls_of_c(checks, folder, file):
     program, source = f"{folder}/calls", CALLS_OF_C.replace("TEXT", STORED[0])
     words = ["-std=gnu99", "-O1", "-w", *REFUSING, "-I", HEADER.parent, f"-Wl,-rpath,{file.parent},-z,now", "-o", program]
     checks.that("calls.c, compiled", ran("gcc", *words, "-x", "c", "-", "-x", "none", file, input=source), (0, ""))
-    checks.that("memory refused in turn, and the stack after each call", ran(program), (0, ""))
+    checks.that("a stack of 64 KiB, memory refused in turn, and the stack after each call", ran(program), (0, ""))
+
+
+# The memory of hashes over other heaps, in KiB; and a heap of a program's own, of what The GNU C Library, Replacing malloc, names
+# as the least: it ends the process where it is to free what it did not give.
+SIZES = 8, 64, 1024, 2048, 2052, 4096, 30000, 65536, 262144
+OWN_HEAP = """#include <stddef.h>
+#include <string.h>
+#include <sys/mman.h>
+#include <unistd.h>
+struct head { size_t size, tag; };
+void *malloc(size_t size)
+{
+    struct head *it = mmap(NULL, size + sizeof *it, PROT_READ | PROT_WRITE, MAP_PRIVATE | MAP_ANONYMOUS, -1, 0);
+    if (it == MAP_FAILED)
+        return NULL;
+    *it = (struct head){size, 0x1234};
+    return it + 1;
+}
+void free(void *block)
+{
+    struct head *it = (struct head *)block - 1;
+    if (block && it->tag != 0x1234)
+        _exit(99);
+    if (block)
+        munmap(it, it->size + sizeof *it);
+}
+void *calloc(size_t count, size_t size) { return malloc(count * size); }
+void *realloc(void *old, size_t size)
+{
+    void *it = malloc(size);
+    size_t before = old ? ((struct head *)old - 1)->size : 0;
+    if (it && old)
+        memcpy(it, old, before < size ? before : size);
+    if (it)
+        free(old);
+    return it;
+}
+"""
+HASHES_OF_C = """#include <argon2.h>
+#include <stdio.h>
+#include <stdlib.h>
+int main(int count, char **words)
+{
+    char text[200];
+    for (int at = 1; at < count; at += 1) {
+        int made = argon2id_hash_encoded(1, atoi(words[at]), 1, "password", 8, "somesalt", 8, 32, text, 200);
+        printf("%d%d%d ", made, argon2id_verify(text, "password", 8), argon2id_verify(text, "passwort", 8));
+    }
+    puts(text);
+    return 0;
+}
+"""
+
+
+def over_other_heaps(checks, folder, file):
+    """Hashes of all sizes, made and verified over the heaps that programs bring, as over the C library's."""
+    words = ["-std=gnu99", "-O1", "-w", "-I", HEADER.parent, "-x", "c", "-", "-x", "none", file, f"-Wl,-rpath,{file.parent},-z,now"]
+    for name, text in (("hashes", HASHES_OF_C), ("own", OWN_HEAP + HASHES_OF_C)):
+        checks.that(f"{name}.c, compiled", ran("gcc", *words, "-o", f"{folder}/{name}", input=text), (0, ""))
+    expected = ran(f"{folder}/hashes", *map(str, SIZES))
+    checks.that("hashes over the C library's heap", (expected[0], expected[1].split()[:-1]), (0, [f"00{VERIFY_MISMATCH}"] * len(SIZES)))
+    checks.that("hashes over a heap of the program's own", ran(f"{folder}/own", *map(str, SIZES)), expected)
+    for package, heap in HEAPS.items():
+        if os.path.exists(heap):
+            environment = {"LD_PRELOAD": heap, "EF_DISABLE_BANNER": "1"}
+            checks.that(f"hashes over {package}", ran(f"{folder}/hashes", *map(str, SIZES), env=environment), expected)
+        else:
+            left_out(f"{package} is not installed", "no hash is made over it", 1)
 
 
 def answers(checks, file):
@@ -438,6 +523,7 @@ def all_of(checks, folder, lib):
     file = pathlib.Path(folder, "compat/libargon2.so.1")
     header(checks, folder)
     answers(checks, file)
+    over_other_heaps(checks, folder, file)
     calls_of_c(checks, folder, file)
     openssl_of(checks, folder, file.parent)
     if DEBIANS.exists():

@@ -9,15 +9,11 @@ import signal
 import sys
 
 sys.path += map(str, pathlib.Path(__file__).resolve().parents[1].iterdir())  # the other folders of tests/
-from checking import is_there, left_out, over_programs, ran
+from checking import HEAPS, is_there, left_out, over_programs, ran
 from tree import TOP
 
 WARNED = ["-std=c99", "-pedantic", "-Wall", "-Wextra", "-Werror"]
 WRAPPED = [f"-Wl,--wrap={it}" for it in ("malloc", "free", "madvise")]
-# Other heaps, and Debian's packages of them.
-FOLDER = "/usr/lib/x86_64-linux-gnu"
-OTHERS = {"libjemalloc2": f"{FOLDER}/libjemalloc.so.2", "libtcmalloc-minimal4": f"{FOLDER}/libtcmalloc_minimal.so.4",
-          "libmimalloc2.0": f"{FOLDER}/libmimalloc.so.2", "electric-fence": "/usr/lib/libefence.so.0"}
 # What stands in heap.c, and what makes it a wrong heap.
 WRONG = (
     ("size ? size : 1", "size"),
@@ -85,7 +81,7 @@ def main(checks, folder):
         checks.that("heap_calls.c, compiled", made(folder, source, program, *flags), (0, ""))
         status, said = ran(program)
         checks.that(f"heap_calls.c: {said.partition(chr(10))[0]}", (status, said), (0, ""))
-    for package, file in OTHERS.items():
+    for package, file in HEAPS.items():
         if os.path.exists(file):
             checks.that(f"heap_calls.c over {package}", ran(plain, "other", env={"LD_PRELOAD": file, "EF_DISABLE_BANNER": "1"}), (0, ""))
         else:

@@ -10,6 +10,12 @@ import time
 # In seconds, and blocks of 512 bytes: no run takes so long, and none writes a file so large.
 TIME_LIMIT = 60
 FILE_LIMIT = 16384
+# Heaps that programs may bring, by Debian's packages of them.
+HEAPS = {
+    "electric-fence": "/usr/lib/libefence.so.0", "libjemalloc2": "/usr/lib/x86_64-linux-gnu/libjemalloc.so.2",
+    "libmimalloc2.0": "/usr/lib/x86_64-linux-gnu/libmimalloc.so.2",
+    "libtcmalloc-minimal4": "/usr/lib/x86_64-linux-gnu/libtcmalloc_minimal.so.4",
+}
 
 
 class Checks:
