@@ -11,6 +11,8 @@ set -eu
 cd "$(dirname "$0")/.."
 library=$1 folder=$2
 mkdir -p "$folder"
+case $(realpath "$folder") in *[\#\$\\\'\"\`]* | *'
+'*) echo "packaging/compat.sh: openssl.cnf can't name a folder with a newline or one of # \$ \\ ' \" \`" >&2 && exit 2 ;; esac
 # What an earlier run made, and what this one made where it does not end well, is taken away.
 taken_away() { rm -f "$folder/libargon2.so.1" "$folder/pikhsen.so" "$folder/openssl.cnf"; }
 trap 'status=$?; test $status = 0 || taken_away' EXIT

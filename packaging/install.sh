@@ -133,6 +133,9 @@ if test -n "$library"; then
         test ! -f "$library/$file" || place 644 "$library/$file" "$lib/${file%/*}"
     done
     if test -f "$library/$compat/pikhsen.so"; then
+        case $prefix$lib in *[\#\$\\\'\"\`]*)
+            refuse "openssl.cnf can't name a folder with one of # \$ \\ ' \" \`, as $prefix/$lib, for pikhsen.so" ;;
+        esac
         sed "s|@FOLDER@|$(escaped "$prefix/$lib/$compat")|" compat/openssl/openssl.cnf >"$work/openssl.cnf"
         place 644 "$work/openssl.cnf" "$lib/$compat"
     fi

@@ -5,15 +5,18 @@
  *
  * Parameters, defaults and limits are those of OpenSSL's own (EVP_KDF-SCRYPT(7)). Other than with it: a table of more
  * than 2^40 bytes is refused, EVP_KDF_CTX_dup gives none, and a refusal puts no reason into OpenSSL's queue of errors.
+ * Properties are refused, since SHA-256 is libpikhsen's own and has none; so is null with a length for password or salt,
+ * which OpenSSL's own takes for none at all.
  */
 #include <openssl/core_dispatch.h>
 #include <openssl/core_names.h>
 #include <openssl/crypto.h>
 #include <openssl/params.h>
+#include <limits.h>
 #include <pikhsen.h>
 
-/* The greatest r * p (RFC 7914, section 2). */
-#define MOST_PRODUCT ((1u << 30) - 1)
+/* The greatest r * p: 128 * r * p is an int in OpenSSL's own, too. (RFC 7914, section 2, has 2^30 - 1.) */
+#define MOST_PRODUCT (INT_MAX / 128)
 #define NO_OPS UINT64_MAX
 
 /* What a key is made of: each of both is null until it is given, and most counts the bytes of memory. */
@@ -90,7 +93,8 @@ static int set_params(void *context, const OSSL_PARAM params[])
 
 	if (!params)
 		return 1;
-	if (!take_bytes(params, OSSL_KDF_PARAM_PASSWORD, &of->password, &of->password_len)
+	if (OSSL_PARAM_locate_const(params, OSSL_KDF_PARAM_PROPERTIES)
+	    || !take_bytes(params, OSSL_KDF_PARAM_PASSWORD, &of->password, &of->password_len)
 	    || !take_bytes(params, OSSL_KDF_PARAM_SALT, &of->salt, &of->salt_len)
 	    || !take_number(params, OSSL_KDF_PARAM_SCRYPT_N, 2, &n) || (n & (n - 1)) != 0)
 		return 0;
@@ -104,8 +108,7 @@ static const OSSL_PARAM *settable_params(void *context, void *provider)
 	static const OSSL_PARAM all[] = {OSSL_PARAM_octet_string(OSSL_KDF_PARAM_PASSWORD, NULL, 0),
 	    OSSL_PARAM_octet_string(OSSL_KDF_PARAM_SALT, NULL, 0), OSSL_PARAM_uint64(OSSL_KDF_PARAM_SCRYPT_N, NULL),
 	    OSSL_PARAM_uint32(OSSL_KDF_PARAM_SCRYPT_R, NULL), OSSL_PARAM_uint32(OSSL_KDF_PARAM_SCRYPT_P, NULL),
-	    OSSL_PARAM_uint64(OSSL_KDF_PARAM_SCRYPT_MAXMEM, NULL), OSSL_PARAM_utf8_string(OSSL_KDF_PARAM_PROPERTIES, NULL, 0),
-	    OSSL_PARAM_END};
+	    OSSL_PARAM_uint64(OSSL_KDF_PARAM_SCRYPT_MAXMEM, NULL), OSSL_PARAM_END};
 
 	(void)context, (void)provider;
 	return all;

@@ -274,7 +274,11 @@ def is_taken_away(checks, room):
     prefix, lib = "/a \\b&c|d", "lib/e&f|g"
     to, words = pathlib.Path(f"{room.folder}/stage{prefix}"), (f"DESTDIR={room.folder}/stage", f"PREFIX={prefix}")
     (to / "include").mkdir(parents=True)
-    checks.that("make install, into DESTDIR", room.run("make", "install", *words, PIKHSEN_LIB=lib)[0], 0)
+    for sign in "#$\\'\"`":
+        found = room.run("packaging/install.sh", "install", to, "bin", "bin/lib", PREFIX=f"/a{sign}b"), below(to)
+        checks.that(f"a prefix with {sign}, which openssl.cnf can't name", (found[0][0], "can't name" in found[0][1], found[1]), (2, True, {"include": None}))
+    with room.instead(None, room.top / COMPAT[1]):
+        checks.that("make install, into DESTDIR", room.run("make", "install", *words, PIKHSEN_LIB=lib)[0], 0)
     flags = (to / lib / "pkgconfig/pikhsen.pc").read_text(encoding="utf-8")
     checks.that("a prefix with signs of sed's", flags, FLAGS.format(prefix, lib, VERSION))
     changed, link, gone = ["bin/scrypt", "share/doc/pikhsen/README.md"], f"{lib}/libpikhsen.so", "share/man/man1/scrypt.1"

@@ -67,6 +67,9 @@ def built(checks, folder, lib):
     """Library and provider, built twice, and what each shows of itself."""
     for it in ("compat", "again"):
         checks.that(f"compat.sh: {it}", ran(TOP / "packaging/compat.sh", lib, f"{folder}/{it}"), (0, ""))
+    for sign in "#$\\'\"`\n":
+        status, said_of = ran(TOP / "packaging/compat.sh", lib, f"{folder}/a{sign}b")
+        checks.that(f"compat.sh: a folder with {sign!r}", (status, "can't name" in said_of, os.listdir(f"{folder}/a{sign}b")), (2, True, []))
     for file in sorted(pathlib.Path(folder, "compat").glob("*.so*")):
         name, (names, soname, *needed) = file.name, SHOWN[file.name]
         checks.that(f"{name}, built twice", file.read_bytes() == pathlib.Path(folder, "again", name).read_bytes(), True)

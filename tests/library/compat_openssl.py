@@ -90,6 +90,71 @@ def keys_in_files(checks, folder, configurations):
             checks.that(f"openssl pkcs8 over {other}, {password}", (status, text), expected)
 
 
+# What is told of other parameters beside password, salt, n and r, by either, in a thread whose stack has 64 KiB: whether all may
+# be set, and whether there is a key.
+ANSWERS = """#include <openssl/evp.h>
+#include <openssl/kdf.h>
+#include <openssl/params.h>
+#include <pthread.h>
+#include <stdio.h>
+static void *in_thread(void *none)
+{
+    unsigned char key[32];
+    uint64_t n = 16, r = 8, p = 1 << 21, less = (1 << 21) - 1, most = 1ull << 33;
+    OSSL_PARAM others[][3] = {
+        {OSSL_PARAM_END}, {OSSL_PARAM_utf8_string("properties", "fips=yes", 0), OSSL_PARAM_END},
+        {OSSL_PARAM_utf8_string("properties", "", 0), OSSL_PARAM_END}, {OSSL_PARAM_octet_string("pass", NULL, 5), OSSL_PARAM_END},
+        {OSSL_PARAM_octet_string("salt", NULL, 5), OSSL_PARAM_END}, {OSSL_PARAM_octet_string("pass", NULL, 0), OSSL_PARAM_END},
+        {OSSL_PARAM_uint64("p", &p), OSSL_PARAM_uint64("maxmem_bytes", &most), OSSL_PARAM_END},
+        {OSSL_PARAM_uint64("p", &less), OSSL_PARAM_uint64("maxmem_bytes", &most), OSSL_PARAM_END}};
+    OSSL_PARAM params[] = {OSSL_PARAM_octet_string("pass", "pw", 2), OSSL_PARAM_octet_string("salt", "salt", 4),
+        OSSL_PARAM_uint64("n", &n), OSSL_PARAM_uint64("r", &r), OSSL_PARAM_END};
+    EVP_KDF *kdf = EVP_KDF_fetch(NULL, "SCRYPT", NULL);
+    for (int it = 0; it < 8; it += 1) {
+        EVP_KDF_CTX *of = EVP_KDF_CTX_new(kdf);
+        printf("%d", EVP_KDF_CTX_set_params(of, params));
+        printf("%d", EVP_KDF_CTX_set_params(of, others[it]));
+        printf("%d ", EVP_KDF_derive(of, it < 6 ? key : NULL, 32, NULL)); /* of the last two, whether one would be computed */
+        EVP_KDF_CTX_free(of);
+    }
+    return none;
+}
+int main(void)
+{
+    pthread_attr_t small;
+    pthread_t thread;
+    pthread_attr_init(&small);
+    pthread_attr_setstacksize(&small, 64 << 10);
+    return pthread_create(&thread, &small, in_thread, NULL) || pthread_join(thread, NULL);
+}
+"""
+# Of each: by both, but for the properties and for null with a length, which man/pikhsen-compat.7 tells of.
+TOLD = {"ours": "111 101 101 101 101 111 110 111 ", "OpenSSL's": "111 100 111 110 110 111 110 111 "}
+
+
+def for_all_programs(checks, folder, compat, program):
+    """A copy of Debian's own openssl.cnf, edited as man/pikhsen-compat.7 says: scrypt is that of the provider."""
+    debians, edited = pathlib.Path("/etc/ssl/openssl.cnf"), pathlib.Path(folder, "edited.cnf")
+    page = (TOP / "man/pikhsen-compat.7").read_text(encoding="utf-8").replace("\\-", "-")
+    two, one = re.findall(r"\n\.nf\n((?:    .*\n)+)\.fi", page.partition("[openssl_init]")[2])[:2]
+    text, head = debians.read_text(encoding="utf-8") if debians.exists() else "", "\n[openssl_init]\n"
+    if head not in text:
+        left_out(f"{debians} has no section openssl_init", "it is not edited", 4)
+        return
+    one = re.sub(r"/\S+", lambda it: str(compat / "openssl.cnf"), one)
+    edited.write_text(text.replace(head, f"{head}{two}") + one, encoding="utf-8")
+    environment = {**os.environ, "OPENSSL_CONF": str(edited)}
+    listed = re.findall("name: (.*)", ran("openssl", "list", "-providers", env=environment)[1])
+    checks.that("providers by the system's file", listed, ["OpenSSL Default Provider", "Pikhsen's scrypt"])
+    checks.that("whose scrypt that is", ran(program, env=environment)[0], 0)
+    if is_there("strace", "no module is seen to be opened", 2):
+        *words, key = VECTORS[1]
+        options = [word for it in zip(("pass", "salt", "n", "r", "p"), words) for word in ("-kdfopt", "{}:{}".format(*it))]
+        status, said = ran("strace", "-e", "openat", "openssl", "kdf", "-keylen", "64", *options, "SCRYPT", env=environment)
+        checks.that("openssl kdf by the system's file", (status, key in said.replace(":", "").lower()), (0, True))
+        checks.that("the module is opened", f'"{compat}/pikhsen.so"' in said, True)
+
+
 def openssl_of(checks, folder, compat):
     """The provider beside OpenSSL's own scrypt."""
     if not (compat / "pikhsen.so").exists():
@@ -121,3 +186,8 @@ def openssl_of(checks, folder, compat):
     # r and p are those that are not given (EVP_KDF-SCRYPT(7))
     key = hashlib.scrypt(b"pw", salt=b"salt", n=1 << 14, r=8, p=1, dklen=32).hex()
     checks.that("each request of the provider refused in turn", ran(program, env=configurations["ours"]), (0, key))
+    for_all_programs(checks, folder, compat, program)
+    made = ran("gcc", "-std=gnu99", "-Wall", "-x", "c", "-", "-lcrypto", "-o", f"{folder}/answers", input=ANSWERS)
+    checks.that("what is told of a parameter, compiled", made, (0, ""))
+    for name, configuration in configurations.items():
+        checks.that(f"what is told of a parameter, {name}", ran(f"{folder}/answers", env=configuration), (0, TOLD[name]))
