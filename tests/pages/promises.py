@@ -9,10 +9,8 @@ import specs
 from edits import BODIES, edits_of
 from tree import tables
 
-# What the types hold, which refuse each body that breaks it: a `Count` has one value and no bytes, and a run gives the system
-# back, with the counts that nothing else makes.
-BY_TYPES = {("counter", "Count::new", "zero"), ("counter", "Count::plus_one", "one_more")} | {
-    (f"{it}_program", "run", "fails") for it in ("argon2", "argon2_verify", "scrypt")}
+# What the types hold, which refuse each body that breaks it: a `Count` has one value and no bytes.
+BY_TYPES = {("counter", "Count::new", "zero"), ("counter", "Count::plus_one", "one_more")}
 IN_BACKTICKS = re.compile(r"`([^`]+)`")
 # The fields of the records that each crate defines.
 FIELDS = {(module.split(".")[0], name, field) for module, file in specs.all_files().items()
