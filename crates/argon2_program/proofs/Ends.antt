@@ -1,5 +1,5 @@
 -- What each refusal of argon2 leaves: where an output was asked for, it alone can have failed.
-use Rattle.std.proofs.Common.{◌≡◌, ◌∙◌, ◌⊎◌, inl, inr, ℕ, Bool, true, false, List, [], None, if◌then◌else◌, is_ok, ap, sym, refl, subst}
+use Rattle.std.proofs.Common.{◌≡◌, ◌⊎◌, inl, inr, ℕ, Bool, true, false, List, [], None, if◌then◌else◌, is_ok, ap, refl}
 use Rattle.host.specs.Faults.{Faults, no_faults}
 use Rattle.host.specs.HostState.{HostState, Text, after_ask_output, after_ask_secret, stdin_once}
 use Rattle.host.specs.Output.{IsOutputCutShort}

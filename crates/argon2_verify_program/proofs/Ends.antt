@@ -1,5 +1,5 @@
 -- What each refusal of argon2-verify leaves: no output is asked for.
-use Rattle.std.proofs.Common.{◌≡◌, ◌∙◌, inl, inr, Bool, List, [], None, ap, refl}
+use Rattle.std.proofs.Common.{◌≡◌, inl, inr, List, [], None, refl}
 use Rattle.host.specs.Faults.{Faults, no_faults}
 use Rattle.host.specs.HostState.{HostState, Text}
 use Rattle.argon2_verify.specs.Reading.{IsFileRefused}

@@ -1,6 +1,6 @@
 -- What each refusal of scrypt leaves: an output was asked for only once the input was opened, and then neither the
 -- passphrase nor the salt can fail.
-use Rattle.std.proofs.Common.{◌≡◌, ◌∙◌, inl, inr, ℕ, Bool, List, [], Option, None, Some, ap, sym, refl, subst}
+use Rattle.std.proofs.Common.{◌≡◌, ◌∙◌, inl, inr, ℕ, List, [], Option, None, Some, ap, refl}
 use Rattle.host.specs.Faults.{Faults, no_faults}
 use Rattle.host.specs.HostState.{HostState, Text}
 use Rattle.scrypt_command.specs.Run.{IsRefused, Succeeds}
