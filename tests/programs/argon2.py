@@ -79,7 +79,8 @@ COMPARED = [
 # Of argon2-verify: words before the file, its text, the password, and what is expected.
 VERIFIED = [
     # the first line alone counts, without its end; and each byte of the password
-    *(("", I_256 + it, b"password", RIGHT) for it in (b"\nother\n", b"\r\n$argon2", b"\r", b"\n" + b"x" * 100000)),
+    *(("", I_256 + it, b"password", RIGHT) for it in (
+        b"\nother\n", b"\r\n$argon2", b"\r", b"\n" + b"x" * 100000, b"\0" * (128 - len(I_256)), b"\0\n$argon2", b"\n\0")),
     *(("", I_256, it, WRONG) for it in (b"password\n", b"", b"p" * 4096)),
     *(("", I_256, b"p" * it, refused("V7b")) for it in (4097, 1000000)),
     # limits that are met, and that are not; where none is given, up to 4 TiB
@@ -199,6 +200,12 @@ def of_argon2_verify(checks):
     checks.that("a password in pieces", checks.slowly(["hash"], b"password", 0.01), RIGHT)
     pieces = "fold -w 7 hash | while read -r it || [ \"$it\" ]; do printf %s \"$it\"; sleep 0.002; done"
     checks.that("a file in pieces", checks.shell(f'mkfifo pipe; {pieces} >pipe & "$0" pipe', b"password"), RIGHT)
+    # the end of the line is enough: it is not waited for the end of the file, and the bytes behind the line stay
+    for end in (r"\n", r"\r", r"\0"):
+        line = f'rm -f kept; mkfifo kept; exec 4<>kept; {{ cat hash; printf "{end}"; }} >&4; timeout 4 "$0" kept'
+        checks.that(f"a pipe that stays open behind a line that ends in {end}", checks.shell(line, b"password"), RIGHT)
+    line = r'{ cat hash; printf "\nrest"; } | { "$0" /proc/self/fd/3 3<&0 </dev/null; cat; }'
+    checks.that("what is behind the line", checks.shell(line, b""), (0, b"rest", b""))
 
 
 # ---- hashes of other programs

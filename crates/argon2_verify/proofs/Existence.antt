@@ -4,10 +4,9 @@ use Rattle.std.specs.Prelude.{nat_le}
 use Rattle.std.proofs.lemmas.Bool.Decides.{nat_tests}
 use Rattle.argon_text.specs.Value.{Value}
 use Rattle.argon_text.specs.Verifying.{tag_of_password}
-use Rattle.host.specs.FirstLine.{first_line}
 use Rattle.host.specs.HostState.{HostState, Text}
 use Rattle.argon2_verify.specs.Hash.{Says, limits_refusal}
-use Rattle.argon2_verify.specs.Reading.{after_password_asked, password_in}
+use Rattle.argon2_verify.specs.Reading.{after_password_asked, hash_line, password_in}
 use Rattle.argon2_verify.specs.Request.{Request, verify_request}
 use Rattle.argon2_verify.specs.Run.{Differs, Inputs, Verifies}
 
@@ -17,13 +16,13 @@ fitting password few =
     rw short refl
 
 module _ (words : List Text) (request : Request) (value : Value) (password : List ℕ) (before : HostState) (taken : verify_request words ≡ Ok request)
-    (says : Says (first_line before.input) value) (admitted : limits_refusal request.limits value ≡ None) (given : before.stdin ≡ Some password)
+    (says : Says (hash_line before.input) value) (admitted : limits_refusal request.limits value ≡ None) (given : before.stdin ≡ Some password)
     (few : length password ≤ 4096) where
   inputs : Inputs true words before (after_password_asked request.file before)
   inputs = record {
     request = request;
     of_words = taken;
-    line = first_line before.input;
+    line = hash_line before.input;
     value = value;
     says = says;
     admitted = admitted;

@@ -4,11 +4,10 @@ use Rattle.argon_text.specs.Value.{Value}
 use Rattle.argon_text.specs.Verifying.{tag_of_password}
 use Rattle.argon_text.specs.declared.fault.ReadFault.TheVariants.{NotInGrammar, OutOfRange, OutOfMemory}
 use Rattle.argon_text.proofs.Readings.{one_value, text_in_range}
-use Rattle.host.specs.FirstLine.{first_line}
 use Rattle.host.specs.HostState.{HostState, Text}
 use Rattle.argon2_verify.specs.Hash.{IsLineRefused, Says, limits_refusal}
 use Rattle.argon2_verify.specs.Laws.{IsFromInside}
-use Rattle.argon2_verify.specs.Reading.{IsFileRefused, IsPasswordRefused, after_file_read, after_password_asked, password_in}
+use Rattle.argon2_verify.specs.Reading.{IsFileRefused, IsPasswordRefused, after_file_read, after_password_asked, hash_line, password_in}
 use Rattle.argon2_verify.specs.Request.{Request, verify_request}
 use Rattle.argon2_verify.specs.Run.{Differs, Inputs, IsRefused, Verifies}
 use Rattle.argon2_verify.specs.declared.refusal.VerifyRefusal.{VerifyRefusal}
@@ -104,7 +103,7 @@ one_of_line line q r (inr (_, (OutOfRange, has, _))) (inr (_, (NotInGrammar, lac
 
 -- a file that is refused from inside is so for its line
 line_of_file : (file : Text) (r : VerifyRefusal) (s t : HostState) → IsFileRefused file r s t → IsFromInside r
-    → IsLineRefused (first_line s.input) r × (t ≡ after_file_read file s)
+    → IsLineRefused (hash_line s.input) r × (t ≡ after_file_read file s)
 line_of_file file r s t (inl failed) inside = is_outside r _ failed.0 inside (λ wrong. absurd wrong)
 line_of_file file r s t (inr refused) inside = refused
 
@@ -117,10 +116,10 @@ length_of_password stdin r (inr (inr is)) inside = is_outside r _ is.0 inside (�
 -- what is refused from inside, as data
 data Due (words : List Text) (s t : HostState) (r : VerifyRefusal) : Type 0 where
   words_due : verify_request words ≡ Err r → t ≡ s → Due words s t r
-  line_due : (request : Request) → verify_request words ≡ Ok request → IsLineRefused (first_line s.input) r → t ≡ after_file_read request.file s → Due words s t r
-  limits_due : (request : Request) → verify_request words ≡ Ok request → (v : Value) → Says (first_line s.input) v → limits_refusal request.limits v ≡ Some r
+  line_due : (request : Request) → verify_request words ≡ Ok request → IsLineRefused (hash_line s.input) r → t ≡ after_file_read request.file s → Due words s t r
+  limits_due : (request : Request) → verify_request words ≡ Ok request → (v : Value) → Says (hash_line s.input) v → limits_refusal request.limits v ≡ Some r
       → t ≡ after_file_read request.file s → Due words s t r
-  password_due : (request : Request) → verify_request words ≡ Ok request → (v : Value) → Says (first_line s.input) v → limits_refusal request.limits v ≡ None
+  password_due : (request : Request) → verify_request words ≡ Ok request → (v : Value) → Says (hash_line s.input) v → limits_refusal request.limits v ≡ None
       → password_in s.stdin ≡ Err r → t ≡ after_password_asked request.file s → Due words s t r
 
 due : (words : List Text) (s t : HostState) (r : VerifyRefusal) → IsRefused r words s t → IsFromInside r → Due words s t r
@@ -150,20 +149,20 @@ module _ (words : List Text) (s t u : HostState) (q r : VerifyRefusal) (inside :
   one_end (words_due is left) (password_due b p2 w says2 free2 is2 left2) = not_both (verify_request words) b q p2 is
   one_end (line_due a p is left) (words_due is2 left2) = not_both (verify_request words) a r p is2
   one_end (line_due a p is left) (line_due b p2 is2 left2) =
-      (one_of_line (first_line s.input) q r is is2 inside inside_too, file_state a b p p2 left left2)
-  one_end (line_due a p is left) (limits_due b p2 w says2 is2 left2) = says_on (first_line s.input) w q says2 is inside
-  one_end (line_due a p is left) (password_due b p2 w says2 free2 is2 left2) = says_on (first_line s.input) w q says2 is inside
+      (one_of_line (hash_line s.input) q r is is2 inside inside_too, file_state a b p p2 left left2)
+  one_end (line_due a p is left) (limits_due b p2 w says2 is2 left2) = says_on (hash_line s.input) w q says2 is inside
+  one_end (line_due a p is left) (password_due b p2 w says2 free2 is2 left2) = says_on (hash_line s.input) w q says2 is inside
   one_end (limits_due a p v says is left) (words_due is2 left2) = not_both (verify_request words) a r p is2
-  one_end (limits_due a p v says is left) (line_due b p2 is2 left2) = says_on (first_line s.input) v r says is2 inside_too
+  one_end (limits_due a p v says is left) (line_due b p2 is2 left2) = says_on (hash_line s.input) v r says is2 inside_too
   one_end (limits_due a p v says is left) (limits_due b p2 w says2 is2 left2) =
-      let first = moved a b v w (one_ok (verify_request words) a b p p2) (says_one (first_line s.input) v w says says2) is in
+      let first = moved a b v w (one_ok (verify_request words) a b p p2) (says_one (hash_line s.input) v w says says2) is in
       (ap (some_or q) (sym first ∙ is2), file_state a b p p2 left left2)
   one_end (limits_due a p v says is left) (password_due b p2 w says2 free2 is2 left2) =
-      not_some (limits_refusal b.limits w) q free2 (moved a b v w (one_ok (verify_request words) a b p p2) (says_one (first_line s.input) v w says says2) is)
+      not_some (limits_refusal b.limits w) q free2 (moved a b v w (one_ok (verify_request words) a b p p2) (says_one (hash_line s.input) v w says says2) is)
   one_end (password_due a p v says free is left) (words_due is2 left2) = not_both (verify_request words) a r p is2
-  one_end (password_due a p v says free is left) (line_due b p2 is2 left2) = says_on (first_line s.input) v r says is2 inside_too
+  one_end (password_due a p v says free is left) (line_due b p2 is2 left2) = says_on (hash_line s.input) v r says is2 inside_too
   one_end (password_due a p v says free is left) (limits_due b p2 w says2 is2 left2) =
-      not_some (limits_refusal b.limits w) r (moved a b v w (one_ok (verify_request words) a b p p2) (says_one (first_line s.input) v w says says2) free) is2
+      not_some (limits_refusal b.limits w) r (moved a b v w (one_ok (verify_request words) a b p p2) (says_one (hash_line s.input) v w says says2) free) is2
   one_end (password_due a p v says free is left) (password_due b p2 w says2 free2 is2 left2) =
       (one_err (password_in s.stdin) q r is is2, password_state a b p p2 left left2)
 
@@ -174,9 +173,9 @@ module _ (words : List Text) (s t u : HostState) (q r : VerifyRefusal) (inside :
 not_due : (words : List Text) (s t u : HostState) (r : VerifyRefusal) → Inputs true words s t → Due words s u r → IsFromInside r → ⊥
 not_due words s t u r p (words_due is left) inside = not_both (verify_request words) p.request r p.of_words is
 not_due words s t u r p (line_due b p2 is left) inside =
-    says_on (first_line s.input) p.value r (subst (λ xs. Says xs p.value) (p.line_read refl) p.says) is inside
+    says_on (hash_line s.input) p.value r (subst (λ xs. Says xs p.value) (p.line_read refl) p.says) is inside
 not_due words s t u r p (limits_due b p2 w says is left) inside =
-    let value = says_one (first_line s.input) p.value w (subst (λ xs. Says xs p.value) (p.line_read refl) p.says) says in
+    let value = says_one (hash_line s.input) p.value w (subst (λ xs. Says xs p.value) (p.line_read refl) p.says) says in
     not_some (limits_refusal b.limits w) r (moved p.request b p.value w (one_ok (verify_request words) p.request b p.of_words p2) value p.admitted) is
 not_due words s t u r p (password_due b p2 w says free is left) inside = not_both (password_in s.stdin) p.password r (p.password_read refl) is
 

@@ -6,13 +6,12 @@ use Rattle.argon_text.specs.Reading.{fields_at}
 use Rattle.argon_text.specs.Value.{Value}
 pub use Rattle.argon_text.specs.Verifying.{tag_of_password}
 use Rattle.argon_text.specs.Verifying.{parameters_of_value}
-use Rattle.host.specs.FirstLine.{first_line}
 use Rattle.host.specs.HostState.{HostState, Text}
 use Rattle.host.specs.Faults.{Faults}
 use Rattle.host.specs.Lines.{SaysOneLine}
 pub use Rattle.argon2_verify.specs.Hash.{Says, limits_refusal}
 use Rattle.argon2_verify.specs.Memory.{IsLeftWithHash, IsLeftWithoutHash, after_matrix, after_text}
-use Rattle.argon2_verify.specs.Reading.{IsFileRefused, IsPasswordRefused, after_file_read, after_password_asked, password_in}
+use Rattle.argon2_verify.specs.Reading.{IsFileRefused, IsPasswordRefused, after_file_read, after_password_asked, hash_line, password_in}
 pub use Rattle.argon2_verify.specs.Refusal.{faults_after_refusal, line_of}
 pub use Rattle.argon2_verify.specs.Request.{Request, verify_request}
 use Rattle.argon2_verify.specs.declared.refusal.VerifyRefusal.{VerifyRefusal}
@@ -29,7 +28,7 @@ pub record Inputs (tells : Bool) (words : List Text) (before after : HostState) 
   pub admitted : limits_refusal request.limits value ≡ None
   pub password : List ℕ
   pub fits : length password ≤ 4096
-  pub line_read : IsTrue tells → line ≡ first_line before.input
+  pub line_read : IsTrue tells → line ≡ hash_line before.input
   pub password_read : IsTrue tells → password_in before.stdin ≡ Ok password
   pub left : IsTrue tells → after ≡ after_password_asked request.file before
 
@@ -60,7 +59,7 @@ pub record RefusesLimits (r : VerifyRefusal) (words : List Text) (before after :
   pub request : Request
   pub of_words : verify_request words ≡ Ok request
   pub value : Value
-  pub says : Says (first_line before.input) value
+  pub says : Says (hash_line before.input) value
   pub is : limits_refusal request.limits value ≡ Some r
   pub left : after ≡ after_file_read request.file before
 
@@ -69,7 +68,7 @@ pub record RefusesPassword (r : VerifyRefusal) (words : List Text) (before after
   pub request : Request
   pub of_words : verify_request words ≡ Ok request
   pub value : Value
-  pub says : Says (first_line before.input) value
+  pub says : Says (hash_line before.input) value
   pub admitted : limits_refusal request.limits value ≡ None
   pub is : IsPasswordRefused before.stdin r
   pub left : after ≡ after_password_asked request.file before
@@ -136,7 +135,7 @@ pub record LeavesMemory {Source : Type 0} (decoded : Source → List ℕ → Boo
     (matrix : Source → Parameters → ℕ → ℕ → Bool → Source) (tells : Bool) (words : List Text) (r : VerifyRefusal)
     (seen : HostState) (before after : Source) : Type 0 where
   pub line : List ℕ
-  pub line_read : IsTrue tells → line ≡ first_line seen.input
+  pub line_read : IsTrue tells → line ≡ hash_line seen.input
   pub left : IsLeftWithoutHash decoded line r before after ⊎ LeavesMemoryWithHash decoded matrix words line r before after
 
 -- the run ended with this refusal, with no block function done: how it left the host, and the source of memory

@@ -2,17 +2,16 @@
 ghost use Rattle.std.specs.Prelude.{◌≡◌, ◌≤◌, ◌^◌, true, None, Some, take, IfOk, IfErr, OnOk, MatchResult, IsTrue};
 ghost use Rattle.argon_text.specs.View.{value_of};
 ghost use Rattle.host.specs.Faults.{AreBelow};
-ghost use Rattle.host.specs.FirstLine.{first_line};
 ghost use Rattle.argon2_verify.specs.Hash.{limits_refusal, read_refusal};
 ghost use Rattle.argon2_verify.specs.Inside.Steps.{GrantsAsOpened, ReadsHash, RefusesHash};
-ghost use Rattle.argon2_verify.specs.Reading.{IsFileRefused, after_file_read};
+ghost use Rattle.argon2_verify.specs.Reading.{IsFileRefused, after_file_read, hash_line, is_hash_end};
 ghost use Rattle.argon2_verify.specs.Refusal.{CountsFault, IsNotOutOfMemory, IsOfNoFailedCall};
 
 use crate::refusal::VerifyRefusal;
 use crate::request::Limits;
 use argon::{ParamFault, Params};
 use argon_text::{DecodeMemory, Encoded, ReadFault, read_encoded_with_memory};
-use host::{Host, first_line_length, pull_full};
+use host::{Host, is_line_end};
 
 // The refusal of a text that is not read.
 fn read_refusal(fault: ReadFault) -> VerifyRefusal
@@ -49,7 +48,15 @@ pub(crate) fn read_hash<R: DecodeMemory, H: Host>(
     }
 }
 
-// Opens the file, and puts its first bytes into the buffer: how many of these are its first line.
+// Whether a byte ends the line of a hash.
+fn is_hash_end(byte: u8) -> bool
+    ensures end { result ≡ is_hash_end byte }
+{
+    is_line_end(byte) || byte == 0
+}
+
+// Opens the file, and puts its first line into the buffer, without its end: how many bytes it has. A byte is pulled at a
+// time, and none behind the line's end: a pipe that stays open is not waited for.
 fn read_line<H: Host>(
     host: &mut H,
     file: &str,
@@ -61,21 +68,29 @@ fn read_line<H: Host>(
     ensures granted { GrantsAsOpened result (H.grants host.old) (H.grants host.new) }
     ensures early { IfErr result IsNotOutOfMemory }
     ensures short { IfOk result (λ len. len ≤ 8191) }
-    ensures line { IsTrue H.tells → IfOk result (λ len. take len buf.new ≡ first_line (H.seen host.old).input) }
+    ensures line { IsTrue H.tells → IfOk result (λ len. take len buf.new ≡ hash_line (H.seen host.old).input) }
     ensures read { IsTrue H.tells → OnOk result (H.seen host.new ≡ after_file_read file.now (H.seen host.old)) }
     ensures refused { IsTrue H.tells → IfErr result (λ r. IsFileRefused file.now r (H.seen host.old) (H.seen host.new)) }
 {
     let Ok(()) = host.open_input(Some(file)) else {
         return Err(VerifyRefusal::FileFault);
     };
-    let Ok(n) = pull_full(host, buf) else {
-        return Err(VerifyRefusal::FileFault);
-    };
-    let len = first_line_length(&buf[..n]);
-    if len > 8191 {
-        return Err(VerifyRefusal::NotHash);
+    let mut len = 0;
+    while len < buf.len() {
+        let mut byte = [0u8; 1];
+        let Ok(n) = host.pull(&mut byte) else {
+            return Err(VerifyRefusal::FileFault);
+        };
+        if n == 0 {
+            return Ok(len);
+        }
+        if is_hash_end(byte[0]) {
+            return Ok(len);
+        }
+        buf[len] = byte[0];
+        len += 1;
     }
-    Ok(len)
+    Err(VerifyRefusal::NotHash)
 }
 
 /// Holds a hash against the limits, of memory first.

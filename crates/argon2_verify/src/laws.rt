@@ -2,10 +2,10 @@
 ghost use Rattle.std.specs.Prelude.{◌≡◌, ◌≢◌, ◌≤◌, ℕ, List, None, Some, Ok, true, length};
 ghost use Rattle.argon_text.specs.Grammar.{IsEncodedTextInRange};
 ghost use Rattle.argon_text.specs.Value.{Value};
-ghost use Rattle.host.specs.FirstLine.{first_line};
 ghost use Rattle.host.specs.HostState.{HostState, Text};
 ghost use Rattle.argon2_verify.specs.Run.{Differs, Inputs, IsRefused, Request, Says, Verifies, limits_refusal, tag_of_password, verify_request};
 ghost use Rattle.argon2_verify.specs.Laws.{IsFromInside};
+ghost use Rattle.argon2_verify.specs.Reading.{hash_line};
 ghost use Rattle.argon2_verify.specs.declared.refusal.VerifyRefusal.{VerifyRefusal};
 
 // A text in range has at most 5,855 bytes: none is refused for its length, since 8,191 are read.
@@ -39,11 +39,11 @@ fn one_refusal()
 // standard input gives a password: with status 0 where this gives the value's tag, and with status 1 where it does not.
 fn answer_exists()
     ensures verifies { (words : List Text) (request : Request) (value : Value) (password : List ℕ) (before : HostState)
-        → verify_request words ≡ Ok request → Says (first_line before.input) value → limits_refusal request.limits value ≡ None
+        → verify_request words ≡ Ok request → Says (hash_line before.input) value → limits_refusal request.limits value ≡ None
         → before.stdin ≡ Some password → length password ≤ 4096 → tag_of_password value password ≡ value.tag
         → (after : HostState) × Verifies true words before after }
     ensures differs { (words : List Text) (request : Request) (value : Value) (password : List ℕ) (before : HostState)
-        → verify_request words ≡ Ok request → Says (first_line before.input) value → limits_refusal request.limits value ≡ None
+        → verify_request words ≡ Ok request → Says (hash_line before.input) value → limits_refusal request.limits value ≡ None
         → before.stdin ≡ Some password → length password ≤ 4096 → tag_of_password value password ≢ value.tag
         → (after : HostState) × Differs true words before after }
 {}

@@ -6,7 +6,7 @@ ghost use Rattle.host.specs.Faults.{no_faults};
 ghost use Rattle.host.specs.HostState.{placeholder_host_state, stdin_once};
 ghost use Rattle.argon2_verify.specs.Hash.{read_refusal};
 ghost use Rattle.argon2_verify.specs.Memory.{after_matrix, after_text};
-ghost use Rattle.argon2_verify.specs.Reading.{after_file_read, after_password_asked, after_reading, password_in};
+ghost use Rattle.argon2_verify.specs.Reading.{after_file_read, after_password_asked, after_reading, hash_line, password_in};
 ghost use Rattle.argon2_verify.specs.Run.{Differs, Verifies, faults_after_refusal, limits_refusal, line_of, tag_of_password, verify_request};
 ghost use Rattle.argon2_verify.specs.declared.refusal.VerifyRefusal.TheVariants as refusal;
 
@@ -49,11 +49,21 @@ fn passwords_of_standard_input()
     ensures no_input { password_in None ≡ Err refusal.PasswordFault }
 {}
 
-// At most 8,192 bytes of the file are read, before the password is asked for.
+// A line ends before the first LF, CR or byte 0; a file may have none of these, or nothing before it.
+fn lines_of_files()
+    ensures line_feed { hash_line (codes "ab\nc\n") ≡ codes "ab" }
+    ensures carriage_return { hash_line (97 ∷ 13 ∷ 10 ∷ []) ≡ codes "a" }
+    ensures zeros { hash_line (97 ∷ 98 ∷ 0 ∷ 0 ∷ 10 ∷ []) ≡ codes "ab" }
+    ensures no_end { hash_line (codes "a b") ≡ codes "a b" }
+    ensures empty { hash_line (0 ∷ 97 ∷ []) ≡ [] }
+{}
+
+// The file's first line is read with its end, and at most 8,192 bytes, before the password is asked for.
 fn hosts_of_a_run()
     ensures opened { (after_file_read (codes "hash") placeholder_host_state).input_opened ≡ Some (Some (codes "hash")) }
     ensures unasked { (after_file_read (codes "hash") placeholder_host_state).asked ≡ None }
     ensures whole { (after_file_read (codes "hash") (record placeholder_host_state { input = codes "abc" })).input ≡ [] }
+    ensures behind { (after_file_read (codes "hash") (record placeholder_host_state { input = codes "ab\ncd" })).input ≡ codes "cd" }
     ensures part { length (after_file_read (codes "hash") (record placeholder_host_state { input = replicate 8195 7 })).input ≡ 3 }
     ensures some { (after_reading (codes "hash") 2 (record placeholder_host_state { input = codes "abc" })).input ≡ codes "c" }
     ensures asked { (after_password_asked (codes "hash") placeholder_host_state).asked ≡ Some stdin_once }
@@ -95,7 +105,7 @@ fn whole_runs()
     ensures right { tag_of_password sample_encoded_value (codes "password") ≡ sample_encoded_value.tag →
         Verifies true (codes "hash" ∷ [])
         (record placeholder_host_state { input = sample_encoded_text ++ codes "\nother"; stdin = Some (codes "password") })
-        (record placeholder_host_state { input_opened = Some (Some (codes "hash")); stdin = Some (codes "password"); asked = Some stdin_once }) }
+        (record placeholder_host_state { input = codes "other"; input_opened = Some (Some (codes "hash")); stdin = Some (codes "password"); asked = Some stdin_once }) }
     ensures wrong { tag_of_password sample_encoded_value (codes "Password") ≢ sample_encoded_value.tag →
         Differs true (codes "hash" ∷ [])
         (record placeholder_host_state { input = sample_encoded_text; stdin = Some (codes "Password") })

@@ -6,11 +6,10 @@ use Rattle.argon_text.specs.Reading.{fields_at}
 use Rattle.argon_text.specs.Value.{Value}
 use Rattle.argon_text.specs.Verifying.{parameters_of_value, tag_of_password}
 use Rattle.host.specs.CallsGrantedByHost.{CallsGrantedByHost, GrantsAllButPullsAsBefore, with_input_opened}
-use Rattle.host.specs.FirstLine.{first_line}
 use Rattle.host.specs.HostState.{HostState, Text}
 use Rattle.argon2_verify.specs.Hash.{Says}
 use Rattle.argon2_verify.specs.Memory.{IsLeftWithoutHash, after_matrix, after_text}
-use Rattle.argon2_verify.specs.Reading.{IsFileRefused, after_file_read, password_in}
+use Rattle.argon2_verify.specs.Reading.{IsFileRefused, after_file_read, hash_line, password_in}
 use Rattle.argon2_verify.specs.declared.refusal.VerifyRefusal.{VerifyRefusal}
 use Rattle.argon2_verify.specs.declared.request.Limits.{Limits}
 
@@ -18,7 +17,7 @@ use Rattle.argon2_verify.specs.declared.request.Limits.{Limits}
 pub record ReadsHash {Source : Type 0} (decoded : Source → List ℕ → Bool → Source) (tells : Bool) (file : Text) (before after : HostState)
     (v : Value) (memory_before memory_after : Source) : Type 0 where
   pub line : List ℕ
-  pub is : IsTrue tells → line ≡ first_line before.input
+  pub is : IsTrue tells → line ≡ hash_line before.input
   pub left : IsTrue tells → after ≡ after_file_read file before
   pub says : Says line v
   pub memory : memory_after ≡ after_text decoded (fields_at line) memory_before
@@ -32,7 +31,7 @@ GrantsAsOpened result before after = OnOk result (GrantsAllButPullsAsBefore (wit
 pub record LeavesMemoryWithoutHash {Source : Type 0} (decoded : Source → List ℕ → Bool → Source) (tells : Bool) (seen : HostState)
     (r : VerifyRefusal) (before after : Source) : Type 0 where
   pub line : List ℕ
-  pub is : IsTrue tells → line ≡ first_line seen.input
+  pub is : IsTrue tells → line ≡ hash_line seen.input
   pub left : IsLeftWithoutHash decoded line r before after
 
 -- the file is refused: how that leaves the host, and the source of memory

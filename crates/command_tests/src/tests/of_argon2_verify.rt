@@ -25,6 +25,10 @@ const FIRST_OF_LINES: &[u8] =
 const BEFORE_CR: &[u8] =
     b"$argon2i$v=19$m=256,t=2,p=1$c29tZXNhbHQ$iekCn0Y3spW+sCcFanM2xBT63UP2sghkUoHLIUpWRS8\r\n";
 
+// The same in the 128 bytes of libsodium's crypto_pwhash_str, with zeros behind it.
+const BEFORE_ZEROS: &[u8] =
+    b"$argon2i$v=19$m=256,t=2,p=1$c29tZXNhbHQ$iekCn0Y3spW+sCcFanM2xBT63UP2sghkUoHLIUpWRS8\0\0\0\0\0\0\0\0\0\0\0\0\0\0\0\0\0\0\0\0\0\0\0\0\0\0\0\0\0\0\0\0\0\0\0\0\0\0\0\0\0\0\0\0\0";
+
 // The same of version 0x10, without the field of a version, which the library reads, too.
 const NO_VERSION: &[u8] =
     b"$argon2i$m=256,t=2,p=1$c29tZXNhbHQ$/U3YPXYsSb3q9XxHvc0MLxur+GP960kN9j7emXX8zwY";
@@ -101,17 +105,15 @@ fn ends(host: &MemoryHost, status: u8, end: End<'_>) -> bool {
         && host.output_name().is_none()
 }
 
-// Whether the words end so over a host with this file and this standard input, which gives so many bytes at a pull, and
-// fails at this call, or at none.
+// Whether the words end so over a host with this file and this standard input, which fails at this call, or at none.
 fn runs(
     alloc: Global,
     line: &str,
     (file, stdin): (&[u8], &[u8]),
-    (pull, failing): (usize, u64),
+    failing: u64,
     end: End<'_>,
 ) -> bool {
     let mut host = new_host(alloc, file, stdin, [0; 32]);
-    host.set_sizes(pull.max(1), 1);
     host.fail_at(failing);
     let status = run_line(alloc, line, &mut host);
     let is_so = ends(&host, status, end);
@@ -119,34 +121,34 @@ fn runs(
     is_so
 }
 
-// A file, a password, and the status.
-static ANSWERS: [(&[u8], &[u8], u8); 15] = [
-    (TWO_PASSES, b"password", 0),
-    (TWO_PASSES, b"Password", 1),
-    (TWO_PASSES, b"password\n", 1),
-    (TWO_PASSES, b"passwor", 1),
-    (TWO_PASSES, b"", 1),
-    (BEFORE_CR, b"password", 0),
-    (FIRST_OF_LINES, b"password", 0),
-    (NO_VERSION, b"password", 0),
-    (NO_VERSION, b"passwords", 1),
-    (OF_NOTHING, b"", 0),
-    (OF_NOTHING, b"p", 1),
-    (OF_128, &[b'p'; 128], 0),
-    (OF_4096, &[b'p'; 4096], 0),
-    (OF_4096, &[b'p'; 4095], 1),
-    (OF_LINES, b"pass\nword\n", 0),
+// A file, a password, the status, and how many bytes of the file are left: those behind the end of its first line.
+static ANSWERS: [(&[u8], &[u8], u8, usize); 16] = [
+    (TWO_PASSES, b"password", 0, 0),
+    (TWO_PASSES, b"Password", 1, 0),
+    (TWO_PASSES, b"password\n", 1, 0),
+    (TWO_PASSES, b"passwor", 1, 0),
+    (TWO_PASSES, b"", 1, 0),
+    (BEFORE_CR, b"password", 0, 1),
+    (FIRST_OF_LINES, b"password", 0, 7),
+    (NO_VERSION, b"password", 0, 0),
+    (NO_VERSION, b"passwords", 1, 0),
+    (OF_NOTHING, b"", 0, 0),
+    (OF_NOTHING, b"p", 1, 0),
+    (OF_128, &[b'p'; 128], 0, 0),
+    (OF_4096, &[b'p'; 4096], 0, 0),
+    (OF_4096, &[b'p'; 4095], 1, 0),
+    (OF_LINES, b"pass\nword\n", 0, 0),
+    (BEFORE_ZEROS, b"password", 0, 44),
 ];
 
-// Whether a row is answered so, however the file's reads are cut.
-fn is_answered(alloc: Global, (file, stdin, status): (&[u8], &[u8], u8)) -> bool {
+// Whether a row is answered so.
+fn is_answered(alloc: Global, (file, stdin, status, left): (&[u8], &[u8], u8, usize)) -> bool {
     let end = End {
         status,
         told: "",
-        left: 0,
+        left,
     };
-    runs(alloc, "hash", (file, stdin), (usize::MAX, 0), end)
-        && runs(alloc, "hash", (file, stdin), (7, 0), end)
+    runs(alloc, "hash", (file, stdin), 0, end)
 }
 
 #[test]
@@ -182,7 +184,7 @@ fn is_limited(alloc: Global, (line, file, told): (&str, &[u8], &str)) -> bool {
         told,
         left: 0,
     };
-    runs(alloc, line, (file, b"password"), (usize::MAX, 0), end)
+    runs(alloc, line, (file, b"password"), 0, end)
 }
 
 #[test]
@@ -221,7 +223,7 @@ fn is_unread(alloc: Global, (line, told): (&str, &str)) -> bool {
         told,
         left: TWO_PASSES.len(),
     };
-    runs(alloc, line, (TWO_PASSES, b"password"), (usize::MAX, 0), end)
+    runs(alloc, line, (TWO_PASSES, b"password"), 0, end)
 }
 
 #[test]
@@ -237,7 +239,7 @@ static NO_HASHES: [(&[u8], usize); 10] = [
     (b"", 0),
     (
         b"\n$argon2i$v=19$m=256,t=2,p=1$c29tZXNhbHQ$iekCn0Y3spW+sCcFanM2xBT63UP2sghkUoHLIUpWRS8",
-        0,
+        83,
     ),
     (
         b" $argon2i$v=19$m=256,t=2,p=1$c29tZXNhbHQ$iekCn0Y3spW+sCcFanM2xBT63UP2sghkUoHLIUpWRS8",
@@ -271,7 +273,7 @@ fn is_no_hash(alloc: Global, (file, left): (&[u8], usize)) -> bool {
         told: NOT_HASH,
         left,
     };
-    runs(alloc, "hash", (file, &[b'p'; 4097]), (5000, 0), end)
+    runs(alloc, "hash", (file, &[b'p'; 4097]), 0, end)
 }
 
 #[test]
@@ -288,7 +290,7 @@ fn is_long(alloc: Global, line: &str, stdin: &[u8], told: &str) -> bool {
         told,
         left: 0,
     };
-    runs(alloc, line, (TWO_PASSES, stdin), (usize::MAX, 0), end)
+    runs(alloc, line, (TWO_PASSES, stdin), 0, end)
 }
 
 #[test]
@@ -299,28 +301,27 @@ fn long_passwords(rt: HostRuntime) {
     assert!(rt; is_long(rt.alloc(), "--maxops 525 hash", &[b'p'; 4097], WORK_LIMIT));
 }
 
-// How a run breaks off that pulls seven bytes at a time: the calls are one opening, twelve pulls of the 83 bytes, one that
-// finds the end, and one secret.
+// How a run breaks off: the calls are one opening, 83 pulls of a byte, one that finds the end, and one secret.
 fn broken_off(call: u64) -> End<'static> {
     End {
         status: 2,
-        told: if call == 15 {
+        told: if call == 86 {
             PASSWORD_FAULT
         } else {
             FILE_FAULT
         },
-        left: 83usize.saturating_sub((call as usize).saturating_sub(2).saturating_mul(7)),
+        left: 83usize.saturating_sub((call as usize).saturating_sub(2)),
     }
 }
 
 // Whether a run ends so, with this call of the host's failing.
 fn breaks_off(alloc: Global, call: u64, end: End<'_>) -> bool {
-    runs(alloc, "hash", (TWO_PASSES, b"password"), (7, call), end)
+    runs(alloc, "hash", (TWO_PASSES, b"password"), call, end)
 }
 
 #[test]
 fn each_host_call_fails(rt: HostRuntime) {
-    for call in 1..=15u64 {
+    for call in 1..=86u64 {
         assert!(rt; breaks_off(rt.alloc(), call, broken_off(call)), "{call}");
     }
     let right = End {
@@ -329,7 +330,7 @@ fn each_host_call_fails(rt: HostRuntime) {
         left: 0,
     };
     // there is no further call
-    assert!(rt; breaks_off(rt.alloc(), 16, right));
+    assert!(rt; breaks_off(rt.alloc(), 87, right));
 }
 
 // A line that cannot be said is passed over.
@@ -340,7 +341,7 @@ fn says_nothing(rt: HostRuntime) {
         told: "",
         left: 4,
     };
-    assert!(rt; runs(rt.alloc(), "", (b"hash", b""), (9, 1), silent));
+    assert!(rt; runs(rt.alloc(), "", (b"hash", b""), 1, silent));
 }
 
 // What a run leaves that needs memory: its answer, its refusal, its block functions, and the last request.

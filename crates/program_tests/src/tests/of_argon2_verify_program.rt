@@ -102,11 +102,11 @@ fn hash_above_a_limit(rt: HostRuntime) {
     );
 }
 
-// The fourth call opens the password: three open the file, and read it and its end.
+// Call 84 opens the password: those before it open the file, and read its line and the line's end.
 #[test]
 fn password_that_cannot_be_opened(rt: HostRuntime) {
     let end = refusal(2, "argon2-verify: password cannot be read");
-    assert!(rt; runs_failing(rt.alloc(), VERIFY, 4, end));
+    assert!(rt; runs_failing(rt.alloc(), VERIFY, 84, end));
 }
 
 // ProgramRefuses: a word that is no text, though the name may be any bytes

@@ -96,16 +96,17 @@ const PASSWORD_FAULT: &str = "argon2-verify: password cannot be read";
 
 const LIMIT: &str = "argon2-verify: more memory needed than --maxmem allows";
 
-// The call of the system that fails, the status and the line: an opening and two reads of the file, and of standard input.
+// The call of the system that fails, the status and the line: an opening and 84 reads of the file, to the end of its line,
+// and an opening and two reads of standard input.
 static FAILING: [(u64, u8, &str); 8] = [
     (0, 0, ""),
     (1, 2, FILE_FAULT),
     (2, 2, FILE_FAULT),
-    (3, 2, FILE_FAULT),
-    (4, 2, PASSWORD_FAULT),
-    (5, 2, PASSWORD_FAULT),
-    (6, 2, PASSWORD_FAULT),
-    (7, 0, ""),
+    (85, 2, FILE_FAULT),
+    (86, 2, PASSWORD_FAULT),
+    (87, 2, PASSWORD_FAULT),
+    (88, 2, PASSWORD_FAULT),
+    (89, 0, ""),
 ];
 
 #[test]

@@ -1,8 +1,8 @@
 use Rattle.std.proofs.Common.{◌≤◌, List, ℕ, inl, inr, length, take, refl, subst, rules, arith}
 use Rattle.std.proofs.lemmas.Grind.{common_steps}
 use Rattle.argon_text.specs.Answer.{IsReadFaultOfText}
-use Rattle.host.specs.FirstLine.{first_line}
 use Rattle.argon2_verify.specs.Inside.Steps.{RefusesHash}
+use Rattle.argon2_verify.specs.Reading.{hash_line}
 use Rattle.argon2_verify.proofs.hash.read_hash.Goals as goal
 
 pub returns-in_err-len-clause-refused : goal.returns-in_err-len-clause-refused
@@ -12,7 +12,7 @@ returns-in_err-len-clause-refused g c =
     c.args.memory.now c.args.memory.now = record {
       refused = λ t. c.in_err-len.ensures.refused t;
       memory = record {
-        line = first_line s.input;
+        line = hash_line s.input;
         is = λ _. refl;
         left = inl (c.in_err-len.ensures.early, refl);
       };

@@ -1,10 +1,9 @@
 use Rattle.std.proofs.Common.{◌≡◌, ◌∙◌, List, true, inl, inr, map, string_bytes, sym, refl, ap, subst, rules}
 use Rattle.argon_text.specs.View.{value_of}
-use Rattle.host.specs.FirstLine.{first_line}
 use Rattle.host.specs.HostState.{HostState, Text, after_ask_secret, stdin_once}
 use Rattle.argon2_verify.specs.Hash.{Says}
 use Rattle.argon2_verify.specs.Memory.{IsLeftWithHash, after_matrix}
-use Rattle.argon2_verify.specs.Reading.{IsPasswordRefused, after_password_asked, password_in}
+use Rattle.argon2_verify.specs.Reading.{IsPasswordRefused, after_password_asked, hash_line, password_in}
 use Rattle.argon2_verify.specs.Request.{verify_request_view}
 use Rattle.argon2_verify.specs.Run.{EndsRefused}
 use Rattle.argon2_verify.proofs.Ends.{by_result}
@@ -19,7 +18,7 @@ returns-in_err-request-clause-ends g c =
       refused = λ _. inl (sym c.in_err-request.ensures.request, refl);
       no_work = refl;
       memory = record {
-        line = first_line s.input;
+        line = hash_line s.input;
         line_read = λ _. refl;
         left = inl (inl (c.in_err-request.ensures.early, refl));
       };
