@@ -125,14 +125,19 @@ STREAMS = [
 SILENT = (2, b"", b"")
 VERIFIED_STREAMS = [
     ("hash <&-", refused("V7a")), ("hash </", refused("V7a")), ("hash >&-", RIGHT), ("none 2>&-", SILENT),
-    ("none 2>/dev/full", SILENT), ("hash <&- >&- 2>&-", SILENT), ("hash <hash", WRONG), ("./--maxmem", refused("V3")),
+    ("none 2>/dev/full", SILENT), ("hash <&- >&- 2>&-", SILENT), ("./--maxmem", refused("V3")),
+    # the file is standard input itself, by any name and of any kind; or is not
+    *((it, refused("V9")) for it in (
+        "hash <hash", "./hash <hash", "/dev/stdin", "/dev/stdin <hash", "/proc/self/fd/0", "/dev/fd/3 3<&0",
+        "/dev/null </dev/null")),
+    ("hash </dev/null", WRONG), ("/dev/null", refused("V4")), ("/dev/fd/3 3<hash", RIGHT),
 ]
 # What is left of standard input: what refuses words or the file is told before the password is read, of which no more
 # is read than tells that it is too long.
 LEFT = [("", b"password", b"password", "A1"), ("somesalt -e -q", b"password", b"password", "A2"),
         (CHEAP, b"p" * 128 + b"left", b"left", "A8c")]
 VERIFIED_LEFT = [*((words, b"password", b"password", number) for words, number in (
-    ("", "V1"), ("none", "V3"), ("--maxmem 255 hash", "V6a"))), ("hash", b"p" * 4097 + b"left", b"left", "V7b")]
+    ("", "V1"), ("none", "V3"), ("/dev/stdin", "V9"), ("--maxmem 255 hash", "V6a"))), ("hash", b"p" * 4097 + b"left", b"left", "V7b")]
 # Words, the file that is a standard stream, what it holds, how that ends, and what comes to the file. One that is read
 # gets neither a hash nor a line; another does, after what it held.
 READ = [

@@ -101,8 +101,8 @@ def enc_body(source, target):
 
 PASSWORD, CHECKED, TYPED = (f"{it}: look at 0, read 0, read 0;" for it in ("A8a", "V7a", "S4a"))
 PW = secret("pw", "S4a")
-# a byte at a time, to the end of its line
-HASH = f"V3: open hash-256, look at hash-256{', read hash-256' * 84};"
+# whether it is standard input; and a byte at a time, to the end of its line
+HASH = f"V3: open hash-256, look at hash-256, look at hash-256, look at 0{', read hash-256' * 84};"
 HELLO, READ_F5 = "S12: open hello, look at hello;", "S12: open F5, look at F5, read F5;"
 DISK = "sync out, sync ."
 # Texts of the password `password`: of 256 KiB, of 1 MiB and of 4 MiB.

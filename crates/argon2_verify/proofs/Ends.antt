@@ -11,7 +11,7 @@ pub by_result : {A E : Type 0} {P : A → Type 0} {Q : E → Type 0} (r : Result
 by_result (Ok a) f g = f a refl
 by_result (Err e) f g = g e refl
 
-abbrev IsWrong : Bool → Type 0
+abbrev pub IsWrong : Bool → Type 0
 IsWrong true = ⊥
 IsWrong false = Unit {0}
 

@@ -16,7 +16,7 @@ fitting password few =
     rw short refl
 
 module _ (words : List Text) (request : Request) (value : Value) (password : List ℕ) (before : HostState) (taken : verify_request words ≡ Ok request)
-    (says : Says (hash_line before.input) value) (admitted : limits_refusal request.limits value ≡ None) (given : before.stdin ≡ Some password)
+    (apart : before.input_is_stdin ≡ false) (says : Says (hash_line before.input) value) (admitted : limits_refusal request.limits value ≡ None) (given : before.stdin ≡ Some password)
     (few : length password ≤ 4096) where
   inputs : Inputs true words before (after_password_asked request.file before)
   inputs = record {
@@ -28,6 +28,7 @@ module _ (words : List Text) (request : Request) (value : Value) (password : Lis
     admitted = admitted;
     password = password;
     fits = few;
+    apart = λ _. apart;
     line_read = λ _. refl;
     password_read = λ _. ap password_in given ∙ fitting password few;
     left = λ _. refl;

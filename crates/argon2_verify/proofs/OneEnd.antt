@@ -1,5 +1,5 @@
 -- Words and a host come to one end.
-use Rattle.std.proofs.Common.{◌≡◌, ◌∙◌, ℕ, true, List, Option, Some, None, Result, Ok, Err, refl, inl, inr, ap, subst, sym, arith}
+use Rattle.std.proofs.Common.{◌≡◌, ◌∙◌, ℕ, true, false, List, Option, Some, None, Result, Ok, Err, refl, inl, inr, ap, subst, sym, arith}
 use Rattle.argon_text.specs.Value.{Value}
 use Rattle.argon_text.specs.Verifying.{tag_of_password}
 use Rattle.argon_text.specs.declared.fault.ReadFault.TheVariants.{NotInGrammar, OutOfRange, OutOfMemory}
@@ -7,10 +7,12 @@ use Rattle.argon_text.proofs.Readings.{one_value, text_in_range}
 use Rattle.host.specs.HostState.{HostState, Text}
 use Rattle.argon2_verify.specs.Hash.{IsLineRefused, Says, limits_refusal}
 use Rattle.argon2_verify.specs.Laws.{IsFromInside}
-use Rattle.argon2_verify.specs.Reading.{IsFileRefused, IsPasswordRefused, after_file_read, after_password_asked, hash_line, password_in}
+use Rattle.argon2_verify.specs.Reading.{IsFileRefused, IsPasswordRefused, after_file_read, after_password_asked, after_reading, hash_line, password_in}
 use Rattle.argon2_verify.specs.Request.{Request, verify_request}
 use Rattle.argon2_verify.specs.Run.{Differs, Inputs, IsRefused, Verifies}
 use Rattle.argon2_verify.specs.declared.refusal.VerifyRefusal.{VerifyRefusal}
+use Rattle.argon2_verify.specs.declared.refusal.VerifyRefusal.TheVariants.{FileIsStdin}
+use Rattle.argon2_verify.proofs.Ends.{IsWrong}
 
 pub says_one : (line : List ℕ) (v w : Value) → Says line v → Says line w → v ≡ w
 says_one line v w p q = one_value v w line p.value q.value p.text q.text
@@ -101,11 +103,9 @@ one_of_line line q r (inr (_, (OutOfRange, _, a))) (inr (_, (OutOfRange, _, b)))
 one_of_line line q r (inr (_, (NotInGrammar, lacks, _))) (inr (_, (OutOfRange, has, _))) i j = absurd (let wrong : ⊥ = lacks has.0 in wrong)
 one_of_line line q r (inr (_, (OutOfRange, has, _))) (inr (_, (NotInGrammar, lacks, _))) i j = absurd (let wrong : ⊥ = lacks has.0 in wrong)
 
--- a file that is refused from inside is so for its line
-line_of_file : (file : Text) (r : VerifyRefusal) (s t : HostState) → IsFileRefused file r s t → IsFromInside r
-    → IsLineRefused (hash_line s.input) r × (t ≡ after_file_read file s)
-line_of_file file r s t (inl failed) inside = is_outside r _ failed.0 inside (λ wrong. absurd wrong)
-line_of_file file r s t (inr refused) inside = refused
+-- a file is not both
+not_apart : {P : Type 0} (s : HostState) → s.input_is_stdin ≡ true → s.input_is_stdin ≡ false → P
+not_apart s is apart = absurd (let wrong : ⊥ = subst IsWrong (sym apart ∙ is) tt in wrong)
 
 -- a password that is refused from inside is so for its length
 length_of_password : (stdin : Option (List ℕ)) (r : VerifyRefusal) → IsPasswordRefused stdin r → IsFromInside r → password_in stdin ≡ Err r
@@ -116,19 +116,25 @@ length_of_password stdin r (inr (inr is)) inside = is_outside r _ is.0 inside (�
 -- what is refused from inside, as data
 data Due (words : List Text) (s t : HostState) (r : VerifyRefusal) : Type 0 where
   words_due : verify_request words ≡ Err r → t ≡ s → Due words s t r
-  line_due : (request : Request) → verify_request words ≡ Ok request → IsLineRefused (hash_line s.input) r → t ≡ after_file_read request.file s → Due words s t r
-  limits_due : (request : Request) → verify_request words ≡ Ok request → (v : Value) → Says (hash_line s.input) v → limits_refusal request.limits v ≡ Some r
+  stdin_due : (request : Request) → verify_request words ≡ Ok request → r ≡ FileIsStdin → s.input_is_stdin ≡ true → t ≡ after_reading request.file 0 s → Due words s t r
+  line_due : (request : Request) → verify_request words ≡ Ok request → s.input_is_stdin ≡ false → IsLineRefused (hash_line s.input) r → t ≡ after_file_read request.file s → Due words s t r
+  limits_due : (request : Request) → verify_request words ≡ Ok request → s.input_is_stdin ≡ false → (v : Value) → Says (hash_line s.input) v → limits_refusal request.limits v ≡ Some r
       → t ≡ after_file_read request.file s → Due words s t r
-  password_due : (request : Request) → verify_request words ≡ Ok request → (v : Value) → Says (hash_line s.input) v → limits_refusal request.limits v ≡ None
+  password_due : (request : Request) → verify_request words ≡ Ok request → s.input_is_stdin ≡ false → (v : Value) → Says (hash_line s.input) v → limits_refusal request.limits v ≡ None
       → password_in s.stdin ≡ Err r → t ≡ after_password_asked request.file s → Due words s t r
+
+file_due : (words : List Text) (s t : HostState) (r : VerifyRefusal) (request : Request) → verify_request words ≡ Ok request → IsFileRefused request.file r s t
+    → IsFromInside r → Due words s t r
+file_due words s t r request p (inl failed) inside = is_outside r _ failed.0 inside (λ wrong. absurd wrong)
+file_due words s t r request p (inr (inl own)) inside = stdin_due request p own.0 own.1 own.2
+file_due words s t r request p (inr (inr line)) inside = line_due request p line.0 line.1 line.2
 
 due : (words : List Text) (s t : HostState) (r : VerifyRefusal) → IsRefused r words s t → IsFromInside r → Due words s t r
 due words s t r (inl told) inside = words_due told.0 told.1
-due words s t r (inr (inl told)) inside =
-    let line = line_of_file told.request.file r s t told.is inside in line_due told.request told.of_words line.0 line.1
-due words s t r (inr (inr (inl told))) inside = limits_due told.request told.of_words told.value told.says told.is told.left
+due words s t r (inr (inl told)) inside = file_due words s t r told.request told.of_words told.is inside
+due words s t r (inr (inr (inl told))) inside = limits_due told.request told.of_words told.apart told.value told.says told.is told.left
 due words s t r (inr (inr (inr told))) inside =
-    password_due told.request told.of_words told.value told.says told.admitted (length_of_password s.stdin r told.is inside) told.left
+    password_due told.request told.of_words told.apart told.value told.says told.admitted (length_of_password s.stdin r told.is inside) told.left
 
 moved : {o : Option VerifyRefusal} (a b : Request) (v w : Value) → a ≡ b → v ≡ w → limits_refusal a.limits v ≡ o → limits_refusal b.limits w ≡ o
 moved {o} a b v w request value is =
@@ -144,26 +150,36 @@ module _ (words : List Text) (s t u : HostState) (q r : VerifyRefusal) (inside :
 
   one_end : Due words s t q → Due words s u r → (q ≡ r) × (t ≡ u)
   one_end (words_due is left) (words_due is2 left2) = (one_err (verify_request words) q r is is2, left ∙ sym left2)
-  one_end (words_due is left) (line_due b p2 is2 left2) = not_both (verify_request words) b q p2 is
-  one_end (words_due is left) (limits_due b p2 w says2 is2 left2) = not_both (verify_request words) b q p2 is
-  one_end (words_due is left) (password_due b p2 w says2 free2 is2 left2) = not_both (verify_request words) b q p2 is
-  one_end (line_due a p is left) (words_due is2 left2) = not_both (verify_request words) a r p is2
-  one_end (line_due a p is left) (line_due b p2 is2 left2) =
+  one_end (words_due is left) (line_due b p2 apart2 is2 left2) = not_both (verify_request words) b q p2 is
+  one_end (words_due is left) (limits_due b p2 apart2 w says2 is2 left2) = not_both (verify_request words) b q p2 is
+  one_end (words_due is left) (password_due b p2 apart2 w says2 free2 is2 left2) = not_both (verify_request words) b q p2 is
+  one_end (words_due is left) (stdin_due b p2 _ _ _) = not_both (verify_request words) b q p2 is
+  one_end (stdin_due a p _ _ _) (words_due is2 left2) = not_both (verify_request words) a r p is2
+  one_end (stdin_due a p is own left) (stdin_due b p2 is2 own2 left2) =
+      (is ∙ sym is2, left ∙ ap (λ (x : Request). after_reading x.file 0 s) (one_ok (verify_request words) a b p p2) ∙ sym left2)
+  one_end (stdin_due a p is own left) (line_due b p2 apart2 is2 left2) = not_apart s own apart2
+  one_end (stdin_due a p is own left) (limits_due b p2 apart2 w says2 is2 left2) = not_apart s own apart2
+  one_end (stdin_due a p is own left) (password_due b p2 apart2 w says2 free2 is2 left2) = not_apart s own apart2
+  one_end (line_due a p apart is left) (stdin_due b p2 is2 own2 left2) = not_apart s own2 apart
+  one_end (limits_due a p apart v says is left) (stdin_due b p2 is2 own2 left2) = not_apart s own2 apart
+  one_end (password_due a p apart v says free is left) (stdin_due b p2 is2 own2 left2) = not_apart s own2 apart
+  one_end (line_due a p apart is left) (words_due is2 left2) = not_both (verify_request words) a r p is2
+  one_end (line_due a p apart is left) (line_due b p2 apart2 is2 left2) =
       (one_of_line (hash_line s.input) q r is is2 inside inside_too, file_state a b p p2 left left2)
-  one_end (line_due a p is left) (limits_due b p2 w says2 is2 left2) = says_on (hash_line s.input) w q says2 is inside
-  one_end (line_due a p is left) (password_due b p2 w says2 free2 is2 left2) = says_on (hash_line s.input) w q says2 is inside
-  one_end (limits_due a p v says is left) (words_due is2 left2) = not_both (verify_request words) a r p is2
-  one_end (limits_due a p v says is left) (line_due b p2 is2 left2) = says_on (hash_line s.input) v r says is2 inside_too
-  one_end (limits_due a p v says is left) (limits_due b p2 w says2 is2 left2) =
+  one_end (line_due a p apart is left) (limits_due b p2 apart2 w says2 is2 left2) = says_on (hash_line s.input) w q says2 is inside
+  one_end (line_due a p apart is left) (password_due b p2 apart2 w says2 free2 is2 left2) = says_on (hash_line s.input) w q says2 is inside
+  one_end (limits_due a p apart v says is left) (words_due is2 left2) = not_both (verify_request words) a r p is2
+  one_end (limits_due a p apart v says is left) (line_due b p2 apart2 is2 left2) = says_on (hash_line s.input) v r says is2 inside_too
+  one_end (limits_due a p apart v says is left) (limits_due b p2 apart2 w says2 is2 left2) =
       let first = moved a b v w (one_ok (verify_request words) a b p p2) (says_one (hash_line s.input) v w says says2) is in
       (ap (some_or q) (sym first ∙ is2), file_state a b p p2 left left2)
-  one_end (limits_due a p v says is left) (password_due b p2 w says2 free2 is2 left2) =
+  one_end (limits_due a p apart v says is left) (password_due b p2 apart2 w says2 free2 is2 left2) =
       not_some (limits_refusal b.limits w) q free2 (moved a b v w (one_ok (verify_request words) a b p p2) (says_one (hash_line s.input) v w says says2) is)
-  one_end (password_due a p v says free is left) (words_due is2 left2) = not_both (verify_request words) a r p is2
-  one_end (password_due a p v says free is left) (line_due b p2 is2 left2) = says_on (hash_line s.input) v r says is2 inside_too
-  one_end (password_due a p v says free is left) (limits_due b p2 w says2 is2 left2) =
+  one_end (password_due a p apart v says free is left) (words_due is2 left2) = not_both (verify_request words) a r p is2
+  one_end (password_due a p apart v says free is left) (line_due b p2 apart2 is2 left2) = says_on (hash_line s.input) v r says is2 inside_too
+  one_end (password_due a p apart v says free is left) (limits_due b p2 apart2 w says2 is2 left2) =
       not_some (limits_refusal b.limits w) r (moved a b v w (one_ok (verify_request words) a b p p2) (says_one (hash_line s.input) v w says says2) free) is2
-  one_end (password_due a p v says free is left) (password_due b p2 w says2 free2 is2 left2) =
+  one_end (password_due a p apart v says free is left) (password_due b p2 apart2 w says2 free2 is2 left2) =
       (one_err (password_in s.stdin) q r is is2, password_state a b p p2 left left2)
 
   pub one_refusal : IsRefused q words s t → IsRefused r words s u → (q ≡ r) × (t ≡ u)
@@ -172,12 +188,13 @@ module _ (words : List Text) (s t u : HostState) (q r : VerifyRefusal) (inside :
 -- where there is an answer, no refusal comes from inside
 not_due : (words : List Text) (s t u : HostState) (r : VerifyRefusal) → Inputs true words s t → Due words s u r → IsFromInside r → ⊥
 not_due words s t u r p (words_due is left) inside = not_both (verify_request words) p.request r p.of_words is
-not_due words s t u r p (line_due b p2 is left) inside =
+not_due words s t u r p (stdin_due b p2 is own left) inside = not_apart s own (p.apart refl)
+not_due words s t u r p (line_due b p2 apart is left) inside =
     says_on (hash_line s.input) p.value r (subst (λ xs. Says xs p.value) (p.line_read refl) p.says) is inside
-not_due words s t u r p (limits_due b p2 w says is left) inside =
+not_due words s t u r p (limits_due b p2 apart w says is left) inside =
     let value = says_one (hash_line s.input) p.value w (subst (λ xs. Says xs p.value) (p.line_read refl) p.says) says in
     not_some (limits_refusal b.limits w) r (moved p.request b p.value w (one_ok (verify_request words) p.request b p.of_words p2) value p.admitted) is
-not_due words s t u r p (password_due b p2 w says free is left) inside = not_both (password_in s.stdin) p.password r (p.password_read refl) is
+not_due words s t u r p (password_due b p2 apart w says free is left) inside = not_both (password_in s.stdin) p.password r (p.password_read refl) is
 
 pub refused_from_outside : (words : List Text) (s t u : HostState) (r : VerifyRefusal) → Inputs true words s t → IsRefused r words s u → IsFromInside r → ⊥
 refused_from_outside words s t u r p told inside = not_due words s t u r p (due words s u r told inside) inside

@@ -1,5 +1,5 @@
 -- What is read: the first line of the file, and then the password.
-use Rattle.std.specs.Prelude.{◌≡◌, ◌⊎◌, ◌+◌, ◌<◌, ◌≤◌, ◌==◌, ◌||◌, ℕ, Bool, List, [], ◌∷◌, Option, Some, None, Result, Ok, Err, IsOk, length, min, nat_le, if◌then◌else◌}
+use Rattle.std.specs.Prelude.{◌≡◌, ◌⊎◌, ◌+◌, ◌<◌, ◌≤◌, ◌==◌, ◌||◌, ℕ, Bool, true, false, List, [], ◌∷◌, Option, Some, None, Result, Ok, Err, IsOk, length, min, nat_le, if◌then◌else◌}
 use Rattle.host.specs.FirstLine.{is_line_end}
 use Rattle.host.specs.HostState.{HostState, Text, after_ask_secret, after_open_input, after_pull, stdin_once}
 use Rattle.argon2_verify.specs.Hash.{IsLineRefused}
@@ -38,10 +38,12 @@ abbrev pub IsPasswordRefused : Option (List ℕ) → VerifyRefusal → Type 0
 IsPasswordRefused stdin r =
     (password_in stdin ≡ Err r) ⊎ (r ≡ refusal.PasswordFault) ⊎ ((r ≡ refusal.OutOfMemory) × IsOk (password_in stdin))
 
--- the file has this refusal: the host failed to open it, or to give a byte of its first line or its end, and fewer than
--- 8,192 came; or its first line is refused
+-- the file has this refusal: the host failed to open it, to tell whether it is standard input itself, or to give a byte of
+-- its first line or its end, and fewer than 8,192 came; it is standard input itself, of which nothing is read; or its
+-- first line is refused
 abbrev pub IsFileRefused : Text → VerifyRefusal → HostState → HostState → Type 0
 IsFileRefused file r before after =
     ((r ≡ refusal.FileFault) × ((after ≡ before)
-    ⊎ ((n : ℕ) × (n < 8192) × (n ≤ length (hash_line before.input)) × (after ≡ after_reading file n before))))
-    ⊎ (IsLineRefused (hash_line before.input) r × (after ≡ after_file_read file before))
+    ⊎ ((n : ℕ) × (n < 8192) × (n ≤ length (hash_line before.input)) × (before.input_is_stdin ≡ true → n ≡ 0) × (after ≡ after_reading file n before))))
+    ⊎ ((r ≡ refusal.FileIsStdin) × (before.input_is_stdin ≡ true) × (after ≡ after_reading file 0 before))
+    ⊎ ((before.input_is_stdin ≡ false) × IsLineRefused (hash_line before.input) r × (after ≡ after_file_read file before))

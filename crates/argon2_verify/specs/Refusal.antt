@@ -30,6 +30,7 @@ abbrev pub line_of : VerifyRefusal → Text
 line_of refusal.Usage = codes "argon2-verify: usage: argon2-verify [--maxmem KIB] [--maxops N] file"
 line_of refusal.BadNumber = codes "argon2-verify: bad number"
 line_of refusal.FileFault = codes "argon2-verify: file cannot be read"
+line_of refusal.FileIsStdin = codes "argon2-verify: file is standard input, which gives the password"
 line_of refusal.NotHash = codes "argon2-verify: the file's first line is no encoded hash"
 line_of refusal.OutOfRange = codes "argon2-verify: a number of the hash, or the length of its salt or tag, is out of range"
 line_of refusal.MemoryLimit = codes "argon2-verify: more memory needed than --maxmem allows"

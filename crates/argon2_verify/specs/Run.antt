@@ -1,5 +1,5 @@
 -- A whole run of argon2-verify: what stands at its end.
-use Rattle.std.specs.Prelude.{◌≡◌, ◌⊎◌, ◌+◌, ◌↔◌, ◌≤◌, ℕ, Bool, true, List, Some, None, Result, Ok, Err, IsErrOf, IsTrue, MatchResult, length}
+use Rattle.std.specs.Prelude.{◌≡◌, ◌⊎◌, ◌+◌, ◌↔◌, ◌≤◌, ℕ, Bool, true, false, List, Some, None, Result, Ok, Err, IsErrOf, IsTrue, MatchResult, length}
 use Rattle.argon.specs.Argon2.{Parameters}
 use Rattle.argon.specs.Counts.{work}
 use Rattle.argon_text.specs.Reading.{fields_at}
@@ -17,8 +17,8 @@ pub use Rattle.argon2_verify.specs.Request.{Request, verify_request}
 use Rattle.argon2_verify.specs.declared.refusal.VerifyRefusal.{VerifyRefusal}
 
 -- what a password is tested by: what the words ask for; the value that a line says, whose hash the limits admit; and a
--- password of at most 4,096 bytes. On a host that tells its bytes the line is the first of the file, the password is all
--- of standard input, and so the host is left
+-- password of at most 4,096 bytes. On a host that tells its bytes the file is not standard input itself, the line is its
+-- first, the password is all of standard input, and so the host is left
 pub record Inputs (tells : Bool) (words : List Text) (before after : HostState) : Type 0 where
   pub request : Request
   pub of_words : verify_request words ≡ Ok request
@@ -28,6 +28,7 @@ pub record Inputs (tells : Bool) (words : List Text) (before after : HostState) 
   pub admitted : limits_refusal request.limits value ≡ None
   pub password : List ℕ
   pub fits : length password ≤ 4096
+  pub apart : IsTrue tells → before.input_is_stdin ≡ false
   pub line_read : IsTrue tells → line ≡ hash_line before.input
   pub password_read : IsTrue tells → password_in before.stdin ≡ Ok password
   pub left : IsTrue tells → after ≡ after_password_asked request.file before
@@ -54,11 +55,12 @@ pub record RefusesFile (r : VerifyRefusal) (words : List Text) (before after : H
   pub of_words : verify_request words ≡ Ok request
   pub is : IsFileRefused request.file r before after
 
--- the limits refuse the hash that the first line of the file says
+-- the limits refuse the hash that the first line of the file says, which is not standard input itself
 pub record RefusesLimits (r : VerifyRefusal) (words : List Text) (before after : HostState) : Type 0 where
   pub request : Request
   pub of_words : verify_request words ≡ Ok request
   pub value : Value
+  pub apart : before.input_is_stdin ≡ false
   pub says : Says (hash_line before.input) value
   pub is : limits_refusal request.limits value ≡ Some r
   pub left : after ≡ after_file_read request.file before
@@ -68,6 +70,7 @@ pub record RefusesPassword (r : VerifyRefusal) (words : List Text) (before after
   pub request : Request
   pub of_words : verify_request words ≡ Ok request
   pub value : Value
+  pub apart : before.input_is_stdin ≡ false
   pub says : Says (hash_line before.input) value
   pub admitted : limits_refusal request.limits value ≡ None
   pub is : IsPasswordRefused before.stdin r

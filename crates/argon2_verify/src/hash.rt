@@ -1,5 +1,5 @@
 //! The hash: the first line of the file.
-ghost use Rattle.std.specs.Prelude.{◌≡◌, ◌≤◌, ◌^◌, true, None, Some, take, IfOk, IfErr, OnOk, MatchResult, IsTrue};
+ghost use Rattle.std.specs.Prelude.{◌≡◌, ◌≤◌, ◌^◌, true, false, None, Some, take, IfOk, IfErr, OnOk, MatchResult, IsTrue};
 ghost use Rattle.argon_text.specs.View.{value_of};
 ghost use Rattle.host.specs.Faults.{AreBelow};
 ghost use Rattle.argon2_verify.specs.Hash.{limits_refusal, read_refusal};
@@ -55,7 +55,7 @@ fn is_hash_end(byte: u8) -> bool
     is_line_end(byte) || byte == 0
 }
 
-// Opens the file, and puts its first line into the buffer, without its end: how many bytes it has. A byte is pulled at a
+// Opens the file, which is refused if it is standard input itself, and puts its first line into the buffer, without its end: how many bytes it has. A byte is pulled at a
 // time, and none behind the line's end: a pipe that stays open is not waited for.
 fn read_line<H: Host>(
     host: &mut H,
@@ -67,6 +67,7 @@ fn read_line<H: Host>(
     ensures counts { CountsFault result (H.faults host.old) (H.faults host.new) }
     ensures granted { GrantsAsOpened result (H.grants host.old) (H.grants host.new) }
     ensures early { IfErr result IsNotOutOfMemory }
+    ensures apart { IsTrue H.tells → OnOk result ((H.seen host.old).input_is_stdin ≡ false) }
     ensures short { IfOk result (λ len. len ≤ 8191) }
     ensures line { IsTrue H.tells → IfOk result (λ len. take len buf.new ≡ hash_line (H.seen host.old).input) }
     ensures read { IsTrue H.tells → OnOk result (H.seen host.new ≡ after_file_read file.now (H.seen host.old)) }
@@ -75,6 +76,11 @@ fn read_line<H: Host>(
     let Ok(()) = host.open_input(Some(file)) else {
         return Err(VerifyRefusal::FileFault);
     };
+    match host.input_is_stdin() {
+        Ok(false) => {}
+        Ok(true) => return Err(VerifyRefusal::FileIsStdin),
+        Err(_) => return Err(VerifyRefusal::FileFault),
+    }
     let mut len = 0;
     while len < buf.len() {
         let mut byte = [0u8; 1];

@@ -1,5 +1,5 @@
 //! Laws of the definitions: each function has no body, and its clauses are the law.
-ghost use Rattle.std.specs.Prelude.{◌≡◌, ◌≢◌, ◌≤◌, ℕ, List, None, Some, Ok, true, length};
+ghost use Rattle.std.specs.Prelude.{◌≡◌, ◌≢◌, ◌≤◌, ℕ, List, None, Some, Ok, true, false, length};
 ghost use Rattle.argon_text.specs.Grammar.{IsEncodedTextInRange};
 ghost use Rattle.argon_text.specs.Value.{Value};
 ghost use Rattle.host.specs.HostState.{HostState, Text};
@@ -35,15 +35,15 @@ fn one_refusal()
         → IsFromInside q → IsFromInside r → after ≡ other }
 {}
 
-// There is a state in which a run with an answer leaves a host whose file says a value, which the limits admit, and whose
+// There is a state in which a run with an answer leaves a host whose file, which is not standard input, says a value, which the limits admit, and whose
 // standard input gives a password: with status 0 where this gives the value's tag, and with status 1 where it does not.
 fn answer_exists()
     ensures verifies { (words : List Text) (request : Request) (value : Value) (password : List ℕ) (before : HostState)
-        → verify_request words ≡ Ok request → Says (hash_line before.input) value → limits_refusal request.limits value ≡ None
+        → verify_request words ≡ Ok request → before.input_is_stdin ≡ false → Says (hash_line before.input) value → limits_refusal request.limits value ≡ None
         → before.stdin ≡ Some password → length password ≤ 4096 → tag_of_password value password ≡ value.tag
         → (after : HostState) × Verifies true words before after }
     ensures differs { (words : List Text) (request : Request) (value : Value) (password : List ℕ) (before : HostState)
-        → verify_request words ≡ Ok request → Says (hash_line before.input) value → limits_refusal request.limits value ≡ None
+        → verify_request words ≡ Ok request → before.input_is_stdin ≡ false → Says (hash_line before.input) value → limits_refusal request.limits value ≡ None
         → before.stdin ≡ Some password → length password ≤ 4096 → tag_of_password value password ≢ value.tag
         → (after : HostState) × Differs true words before after }
 {}

@@ -14,6 +14,9 @@ pub enum VerifyRefusal {
     BadNumber,
     /// V3: the host fails to open the file, or to read it. `argon2-verify: file cannot be read`
     FileFault,
+    /// V9: it is standard input itself, under whatever name.
+    /// `argon2-verify: file is standard input, which gives the password`
+    FileIsStdin,
     /// V4: the first line of the file is no encoded text, or has more than 8,191 bytes.
     /// `argon2-verify: the file's first line is no encoded hash`
     NotHash,
@@ -45,6 +48,9 @@ impl VerifyRefusal {
             }
             VerifyRefusal::BadNumber => "argon2-verify: bad number",
             VerifyRefusal::FileFault => "argon2-verify: file cannot be read",
+            VerifyRefusal::FileIsStdin => {
+                "argon2-verify: file is standard input, which gives the password"
+            }
             VerifyRefusal::NotHash => "argon2-verify: the file's first line is no encoded hash",
             VerifyRefusal::OutOfRange => {
                 "argon2-verify: a number of the hash, or the length of its salt or tag, is out of range"

@@ -12,8 +12,9 @@ use Rattle.tools.proofs.Ends.{LeavesOutput, before-output, said-same}
 of-file : (r : VerifyRefusal) (counts : Faults) (file : Text) (before seen : HostState) → before.output_asked ≡ None → IsFileRefused file r before seen
     → LeavesOutput seen counts
 of-file r counts file before seen none (inl (is, inl same)) = before-output counts before seen same none
-of-file r counts file before seen none (inl (is, inr (n, few, within, same))) = before-output counts _ seen same none
-of-file r counts file before seen none (inr (is, same)) = before-output counts _ seen same none
+of-file r counts file before seen none (inl (is, inr (n, few, within, unread, same))) = before-output counts _ seen same none
+of-file r counts file before seen none (inr (inl (is, own, same))) = before-output counts _ seen same none
+of-file r counts file before seen none (inr (inr (apart, is, same))) = before-output counts _ seen same none
 
 pub of-words : (r : VerifyRefusal) (counts : Faults) (words : List Text) (before seen : HostState) → before.output_asked ≡ None
     → IsRefused r words before seen → LeavesOutput seen counts
@@ -26,8 +27,9 @@ of-words r counts words before seen none (inr (inr (inr password))) = before-out
 
 unsaid-file : (r : VerifyRefusal) (file : Text) (before seen : HostState) → before.said ≡ [] → IsFileRefused file r before seen → seen.said ≡ []
 unsaid-file r file before seen none (inl (is, inl same)) = said-same before seen same none
-unsaid-file r file before seen none (inl (is, inr (n, few, within, same))) = said-same _ seen same none
-unsaid-file r file before seen none (inr (is, same)) = said-same _ seen same none
+unsaid-file r file before seen none (inl (is, inr (n, few, within, unread, same))) = said-same _ seen same none
+unsaid-file r file before seen none (inr (inl (is, own, same))) = said-same _ seen same none
+unsaid-file r file before seen none (inr (inr (apart, is, same))) = said-same _ seen same none
 
 pub unsaid-words : (r : VerifyRefusal) (words : List Text) (before seen : HostState) → before.said ≡ [] → IsRefused r words before seen → seen.said ≡ []
 unsaid-words r words before seen none (inl (is, same)) = said-same before seen same none
@@ -39,6 +41,7 @@ pub no-lines : (r : VerifyRefusal) → (faults_after_refusal r no_faults).lines 
 no-lines refusal.Usage = refl
 no-lines refusal.BadNumber = refl
 no-lines refusal.FileFault = refl
+no-lines refusal.FileIsStdin = refl
 no-lines refusal.NotHash = refl
 no-lines refusal.OutOfRange = refl
 no-lines refusal.MemoryLimit = refl

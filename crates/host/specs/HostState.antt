@@ -11,12 +11,13 @@ pub data SecretSource : Type 0 where
   env : Text → SecretSource
   file : Text → SecretSource
 
--- the input that is left, the output so far, the names under which input and output were opened (None: not opened;
--- Some None: the standard stream), the name under which an output was asked for, whether or not it could be opened
+-- the input that is left, whether it is standard input itself, the output so far, the names under which input and
+-- output were opened (None: not opened; Some None: the standard stream), the name under which an output was asked for, whether or not it could be opened
 -- (None: none was asked for), the secret source that was asked (None: none was), whether a salt was asked for, the
 -- lines said so far, the bytes of the secret sources (None: it is not there), and the salt
 pub record HostState : Type 0 where
   pub input : List ℕ
+  pub input_is_stdin : Bool
   pub output : List ℕ
   pub input_opened : Option (Option Text)
   pub output_opened : Option (Option Text)
@@ -72,6 +73,7 @@ after_salt s = record s { salted = true }
 abbrev pub placeholder_host_state : HostState
 placeholder_host_state = record {
   input = [];
+  input_is_stdin = false;
   output = [];
   input_opened = None;
   output_opened = None;

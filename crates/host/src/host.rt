@@ -67,6 +67,17 @@ pub trait Host {
         ensures granted { OnOk result (grants self.new ≡ with_input_opened (grants self.old)) }
         ensures granted_as_before { KeepsOnErr result (grants self.old) (grants self.new) };
 
+    /// Whether the input is standard input itself, whatever its name. The input is opened, and each pull before gave a
+    /// byte.
+    fn input_is_stdin(&mut self) -> Result<bool, HostFault>
+        requires room { AreBelow (2 ^ 64 - 1) (faults self.old) }
+        requires readable { (grants self.old).readable ≡ true }
+        ensures counts { CountsNoFailure result (faults self.old) (faults self.new) }
+        ensures counted { CountsFailure with_input_failure_counted result (faults self.old) (faults self.new) }
+        ensures same { IsTrue tells → seen self.new ≡ seen self.old }
+        ensures told { IsTrue tells → IfOk result (λ is_stdin. is_stdin ≡ (seen self.old).input_is_stdin) }
+        ensures granted { grants self.new ≡ grants self.old };
+
     /// Opens the output under this name; `None` is standard output. No output was asked for before;
     /// this one is asked for, whatever the answer.
     fn open_output(&mut self, name: Option<&str>) -> Result<(), HostFault>

@@ -5,11 +5,12 @@ use Rattle.host.specs.Faults.{Faults, no_faults}
 use Rattle.host.specs.CallsGrantedByHost.{CallsGrantedByHost}
 use Rattle.host.specs.Entries.{Entry, lookup}
 
--- a host in memory: its bytes, names and lines, whether its input may be pulled from, its counts of failures, the
+-- a host in memory: its bytes, names and lines, whether its input is standard input itself, and may be pulled from, its counts of failures, the
 -- greatest sizes of a pull and of a push in bytes, the number of the call that is to fail (0: none), and how many
 -- calls there were
 pub record Memory : Type 0 where
   pub input : List ℕ
+  pub input_is_stdin : Bool
   pub output : List ℕ
   pub input_opened : Option (Option Text)
   pub output_opened : Option (Option Text)
@@ -33,6 +34,7 @@ pub record Memory : Type 0 where
 abbrev pub new_host_in_memory : List ℕ → List ℕ → List ℕ → Memory
 new_host_in_memory input stdin salt = record {
   input = input;
+  input_is_stdin = false;
   output = [];
   input_opened = None;
   output_opened = None;
@@ -56,6 +58,7 @@ new_host_in_memory input stdin salt = record {
 abbrev pub memory_host_state : Memory → HostState
 memory_host_state m = record {
   input = m.input;
+  input_is_stdin = m.input_is_stdin;
   output = m.output;
   input_opened = m.input_opened;
   output_opened = m.output_opened;
@@ -91,6 +94,10 @@ with_environment_variable name bytes m = record m { variables = record { name = 
 -- the host in memory with a secret file more
 abbrev pub with_file : Text → List ℕ → Memory → Memory
 with_file name bytes m = record m { files = record { name = name; bytes = bytes } ∷ m.files }
+
+-- the host in memory whose input is standard input itself, or is not
+abbrev pub with_input_as_stdin : Bool → Memory → Memory
+with_input_as_stdin is_stdin m = record m { input_is_stdin = is_stdin }
 
 -- the host in memory with these greatest sizes of a pull and of a push
 abbrev pub with_sizes : ℕ → ℕ → Memory → Memory

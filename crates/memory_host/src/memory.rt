@@ -5,7 +5,7 @@ ghost use Rattle.host.specs.Faults.{AreBelow, with_input_failure_counted, with_l
 ghost use Rattle.host.specs.HostState.{FitsWithin, TakesSome};
 ghost use Rattle.host.specs.Secret.{secret_of_source};
 ghost use Rattle.memory_host.specs.Calls.{CountsOwnFailure, FindsLatest, OpensInput, OpensOutput, Pushes, SaysLine};
-ghost use Rattle.memory_host.specs.Memory.{Memory, memory_host_state, memory_host_failure_counts, memory_host_grants, new_host_in_memory, with_environment_variable, with_failing_call, with_file, with_sizes};
+ghost use Rattle.memory_host.specs.Memory.{Memory, memory_host_state, memory_host_failure_counts, memory_host_grants, new_host_in_memory, with_environment_variable, with_failing_call, with_file, with_input_as_stdin, with_sizes};
 ghost use Rattle.memory_host.specs.Inside.{next_call_number};
 
 use crate::growth_memory::GrowthMemory;
@@ -24,6 +24,7 @@ use std::marker::Model;
 pub struct MemoryHost {
     alloc: Global,
     input: Vec<u8>,
+    input_is_stdin: bool,
     taken: usize,
     output: Vec<u8>,
     input_name: Option<Option<String>>,
@@ -53,6 +54,7 @@ impl Model for MemoryHost {
 
     ghost view = { λ h. record {
       input = drop h.taken h.input.items;
+      input_is_stdin = h.input_is_stdin;
       output = h.output.items;
       input_opened = option_map (option_map string_bytes) h.input_name;
       output_opened = option_map (option_map string_bytes) h.output_name;
@@ -92,6 +94,7 @@ impl MemoryHost {
         MemoryHost {
             alloc,
             input,
+            input_is_stdin: false,
             taken: 0,
             output: Vec::new(alloc),
             input_name: None,
@@ -165,6 +168,13 @@ impl MemoryHost {
         ensures err { OnErr result (self.new ≡ self.old) }
     {
         growth.prepend_entry(&mut self.files, NamedSecret { name, bytes })
+    }
+
+    /// Sets whether the input, under whatever name, is standard input itself.
+    pub fn set_input_is_stdin(&mut self, is_stdin: bool)
+        ensures stdin { self.new ≡ with_input_as_stdin is_stdin self.old }
+    {
+        self.input_is_stdin = is_stdin;
     }
 
     /// Sets the greatest number of bytes of a pull and of a push, each at least 1.
@@ -388,6 +398,14 @@ impl Host for MemoryHost {
     fn open_input(&mut self, name: Option<&str>) -> Result<(), HostFault> {
         let mut growth = self.alloc;
         self.open_input_with_memory(&mut growth, name)
+    }
+
+    fn input_is_stdin(&mut self) -> Result<bool, HostFault> {
+        if self.next_call_fails() {
+            self.input_faults += 1;
+            return Err(HostFault);
+        }
+        Ok(self.input_is_stdin)
     }
 
     fn open_output(&mut self, name: Option<&str>) -> Result<(), HostFault> {

@@ -1,5 +1,5 @@
 -- What contracts see of a system in memory.
-use Rattle.std.specs.Prelude.{◌≡◌, ℕ, List, [], ◌∷◌, ◌++◌, Option, None, Some, false}
+use Rattle.std.specs.Prelude.{◌≡◌, ℕ, Bool, List, [], ◌∷◌, ◌++◌, Option, None, Some, false}
 use Rattle.host.specs.Faults.{Faults, no_faults}
 use Rattle.host.specs.HostState.{Text}
 use Rattle.tools.specs.declared.identity.FileIdentity.{FileIdentity}
@@ -29,6 +29,10 @@ IsNoFileUntilOpened s before after = s.opened ≡ None → (before ≡ None) × 
 -- the system with this input, which is not opened yet
 abbrev pub with_input_bytes : List ℕ → Memory → Memory
 with_input_bytes bytes m = record m { state = record m.state { input = source_not_yet_opened bytes }; files = record m.files { input = None } }
+
+-- the system whose input is standard input itself, or is not
+abbrev pub with_input_as_stdin : Bool → Memory → Memory
+with_input_as_stdin is_stdin m = record m { state = record m.state { input_is_stdin = is_stdin } }
 
 -- the system with this standard input
 abbrev pub with_stdin_bytes : List ℕ → Memory → Memory

@@ -1,7 +1,7 @@
 //! A system in memory.
 ghost use Rattle.std.specs.Prelude.{◌≡◌, ◌↔◌, ◌+◌, ◌-◌, ◌<◌, ◌^◌, None, true, length, map, min, option_map, Some, IfOk, OnOk, OnErr, IsTrue, string_bytes};
 ghost use Rattle.host.specs.HostState.{FitsWithin, KeepsOnErr};
-ghost use Rattle.memory_system.specs.Memory.{new_system_in_memory, source_not_yet_opened, with_standard_error_file, with_file, with_input_bytes, with_stdin_bytes, with_environment_variable, append_word};
+ghost use Rattle.memory_system.specs.Memory.{new_system_in_memory, source_not_yet_opened, with_standard_error_file, with_file, with_input_as_stdin, with_input_bytes, with_stdin_bytes, with_environment_variable, append_word};
 ghost use Rattle.tools.specs.SystemState.{IsReadStreamUnopened, Opens, Reads, identity_of_stream, stands_at};
 ghost use Rattle.tools.specs.declared.system.Reading.TheVariants as reading;
 
@@ -58,6 +58,7 @@ pub struct MemorySystem {
     input_name: Option<Option<String>>,
     input_file: Identities,
     input: InMemoryStream,
+    input_is_stdin: bool,
     secret: InMemoryStream,
     random: InMemoryStream,
     output: Vec<u8>,
@@ -91,6 +92,7 @@ impl Model for MemorySystem {
     ghost view = { λ m. record {
       state = record {
         input = m.input;
+        input_is_stdin = m.input_is_stdin;
         secret = m.secret;
         random = m.random;
         output = m.output.items;
@@ -133,6 +135,7 @@ impl MemorySystem {
             input_name: None,
             input_file: Identities::NONE,
             input: InMemoryStream::new(Vec::new(alloc)),
+            input_is_stdin: false,
             secret: InMemoryStream::new(Vec::new(alloc)),
             random: InMemoryStream::new(Vec::new(alloc)),
             output: Vec::new(alloc),
@@ -221,6 +224,13 @@ impl MemorySystem {
         self.input_file = identities;
         self.input_name = Some(kept);
         Ok(())
+    }
+
+    /// Says whether the input, under whatever name, is standard input itself.
+    pub fn set_input_is_stdin(&mut self, is_stdin: bool)
+        ensures stdin { self.new ≡ with_input_as_stdin is_stdin self.old }
+    {
+        self.input_is_stdin = is_stdin;
     }
 
     /// Sets the greatest number of bytes of a read, at least 1, and of a write. With 0 a write takes
@@ -481,6 +491,14 @@ impl System for MemorySystem {
                 Err(e)
             }
         }
+    }
+
+    fn input_is_stdin(&mut self) -> Result<bool, HostFault> {
+        if self.next_call_fails() {
+            self.failures.count_read_failure(Reading::Input);
+            return Err(HostFault);
+        }
+        Ok(self.input_is_stdin)
     }
 
     fn open_output(&mut self, name: Option<&str>) -> Result<(), HostFault> {

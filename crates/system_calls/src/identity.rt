@@ -28,6 +28,11 @@ pub fn file_metadata(file: &File) -> Result<Metadata, HostFault> {
     file.metadata().map_err(|_| HostFault)
 }
 
+/// Whether the system tells this of one file, of whatever kind, by the numbers of its device and of its inode.
+pub fn is_same_file(one: &Metadata, other: &Metadata) -> bool {
+    one.dev() == other.dev() && one.ino() == other.ino()
+}
+
 /// The file of which the system tells this, where it is a regular one or a block device.
 pub fn identity(metadata: &Metadata) -> Option<FileIdentity>
     ensures regular { IsFile (file_type metadata.now) → IsSomeAnd result (λ file. IsTrue (is_regular file)) }

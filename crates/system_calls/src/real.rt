@@ -5,7 +5,7 @@ ghost use Rattle.system_calls.specs.Inside.Opened.{IsOpenedByName, IsStandard};
 ghost use Rattle.tools.specs.SystemState.{placeholder_files, placeholder_state};
 
 use crate::closed_stream_placeholders::{ClosedStreamPlaceholders, refuse_standard_descriptor};
-use crate::identity::{file_metadata, identity, standard_stream_metadata};
+use crate::identity::{file_metadata, identity, is_same_file, standard_stream_metadata};
 use host::HostFault;
 use std::env::{Env, FillError};
 use std::fs::{File, Metadata, OpenOptions};
@@ -171,6 +171,15 @@ impl System for Real {
             Opened::Nothing => Err(io::Error::from(ErrorKind::NotFound)),
             Opened::Standard => rt.stdin().read(buf),
             Opened::Named(file) => file.read(buf),
+        }
+    }
+
+    fn input_is_stdin(&mut self) -> Result<bool, HostFault> {
+        let input = self.input.told(self.rt, "/proc/self/fd/0")?;
+        let stdin = standard_stream_metadata(self.rt, "/proc/self/fd/0")?;
+        match (&input, &stdin) {
+            (Some(input), Some(stdin)) => Ok(is_same_file(input, stdin)),
+            _ => Ok(false),
         }
     }
 

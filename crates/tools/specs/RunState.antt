@@ -118,6 +118,7 @@ rest_of_secret_stream (file name) n w = drop n (bytes_or_empty (lookup w.files n
 abbrev pub host_seen : RunState → HostState
 host_seen h = record {
   input = h.state.input.left;
+  input_is_stdin = h.state.input_is_stdin;
   output = h.state.output;
   input_opened = h.state.input.opened;
   output_opened = if h.grants.writable then h.state.output_asked else None;

@@ -16,7 +16,7 @@ pub record Source : Type 0 where
   pub left : List ℕ
   pub is_ended : Bool
 
--- the input, a secret's source and the random bytes; what was written; the name under which an output was asked for,
+-- the input, whether that is standard input itself, whatever its name; a secret's source and the random bytes; what was written; the name under which an output was asked for,
 -- whatever came of it (None: none was; Some None: standard output); whether nothing that the output held is to be taken
 -- away any more, and whether it was emptied; whether it is kept: a regular file or a block device that was opened by its
 -- name; whether it was asked to be brought to the disk, whatever came of it, and whether it was brought there; whether
@@ -24,6 +24,7 @@ pub record Source : Type 0 where
 -- it is there, and what each file does, other than as the input; and the variables
 pub record SystemState : Type 0 where
   pub input : Source
+  pub input_is_stdin : Bool
   pub secret : Source
   pub random : Source
   pub output : List ℕ
@@ -256,6 +257,7 @@ placeholder_stream = record { opened = None; left = []; is_ended = false }
 abbrev pub placeholder_state : SystemState
 placeholder_state = record {
   input = placeholder_stream;
+  input_is_stdin = false;
   secret = placeholder_stream;
   random = placeholder_stream;
   output = [];

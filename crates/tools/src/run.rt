@@ -1,9 +1,9 @@
 //! A run over a system: the system, and how far the run has come.
-ghost use Rattle.std.specs.Prelude.{◌≡◌, ◌<◌, None, option_map, OnOk, OnErr, IsTrue, true, false};
+ghost use Rattle.std.specs.Prelude.{◌≡◌, ◌<◌, None, option_map, IfOk, OnOk, OnErr, IsTrue, true, false};
 ghost use Rattle.host.specs.HostState.{FitsWithin, KeepsOnErr, TakesSome};
 ghost use Rattle.tools.specs.Failures.{AreNoFewer};
 ghost use Rattle.tools.specs.RunState.{Leaves, host_seen, nothing_asked, source_of};
-ghost use Rattle.tools.specs.Steps.{AsksSalt, AsksSecret, FailsEarlyByRead, FailsInUseByOutput, IsSystemOf, OpensInput, OpensOutput, Pulls, Pushes, SaysLine};
+ghost use Rattle.tools.specs.Steps.{AsksSalt, AsksSecret, FailsEarlyByRead, FailsInUseByOutput, GoesOnWithoutLine, IsSystemOf, OpensInput, OpensOutput, Pulls, Pushes, SaysLine};
 ghost use Rattle.tools.specs.Streams.{TakesNoMoreOfSecret};
 ghost use Rattle.tools.specs.SystemState.{HasSeparateErrorStream, IsLineAskedUnlessReading, IsOutputSeparate, IsOutputSynced, IsOutputUnsynced, IsUnused};
 ghost use Rattle.tools.specs.declared.system.Reading.TheVariants as reading;
@@ -168,6 +168,17 @@ impl<S: System> Run<S> {
         self.system.open(Reading::Input, name)?;
         self.input = InputStage::Opened;
         Ok(())
+    }
+
+    /// Whether the input, which is opened, is standard input itself, whatever its name.
+    pub fn input_is_stdin(&mut self) -> Result<bool, HostFault>
+        ensures told { IsTrue S.tells → IfOk result (λ is_stdin. is_stdin ≡ self.old.state.input_is_stdin) }
+        ensures same { IsTrue S.tells → host_seen self.new ≡ host_seen self.old }
+        ensures granted { self.new.grants ≡ self.old.grants }
+        ensures on { GoesOnWithoutLine S.tells self.old self.new }
+        ensures failed { IsTrue S.tells → OnErr result (self.old.failures.input < self.new.failures.input) }
+    {
+        self.system.input_is_stdin()
     }
 
     /// Opens an output that is no file that is read, and empties it where it is a regular file that was opened

@@ -1,6 +1,6 @@
 //! The calls of the system that the programs make.
 ghost use Rattle.std.specs.Prelude.{◌≡◌, ◌+◌, ◌<◌, Bool, ℕ, List, [], None, Ok, true, false, length, option_map, take, IfOk, OnOk, OnErr, IsTrue};
-ghost use Rattle.host.specs.Faults.{Faults, CountsFailure, CountsNoFailure, with_line_failure_counted, with_output_failure_counted, with_secret_failure_counted};
+ghost use Rattle.host.specs.Faults.{Faults, CountsFailure, CountsNoFailure, with_input_failure_counted, with_line_failure_counted, with_output_failure_counted, with_secret_failure_counted};
 ghost use Rattle.host.specs.Entries.{lookup};
 ghost use Rattle.host.specs.Secret.{IsBeginning};
 ghost use Rattle.host.specs.HostState.{Text, FitsWithin, KeepsOnErr};
@@ -73,8 +73,8 @@ pub trait System {
     // How often a read or a write was asked for.
     ghost tries: { Self → ℕ };
 
-    // How often each kind of call has failed: to open or read the input; to open, write, empty or keep the output; to
-    // open, read or give a secret; to open or read random bytes; and to say a line.
+    // How often each kind of call has failed: to open or read the input, or to tell whether it is standard input; to open,
+    // write, empty or keep the output; to open, read or give a secret; to open or read random bytes; and to say a line.
     ghost failures: { Self → Faults };
 
     // The words of the process, of which the first is its name.
@@ -124,6 +124,16 @@ pub trait System {
             failures self.new ≡ after_read_counted reading n (failures self.old)) }
         ensures counted { IsTrue tells →
             CountsFailure (with_read_failure_counted reading) result (failures self.old) (failures self.new) };
+
+    /// Whether the input, which is opened, is standard input itself, whatever its name.
+    fn input_is_stdin(&mut self) -> Result<bool, HostFault>
+        ensures told { IsTrue tells → IfOk result (λ is_stdin. is_stdin ≡ (state self.old).input_is_stdin) }
+        ensures same { IsTrue tells → state self.new ≡ state self.old }
+        ensures same_files { IsTrue tells → files self.new ≡ files self.old }
+        ensures untried { IsTrue tells → tries self.new ≡ tries self.old }
+        ensures counts { IsTrue tells → CountsNoFailure result (failures self.old) (failures self.new) }
+        ensures counted { IsTrue tells →
+            CountsFailure with_input_failure_counted result (failures self.old) (failures self.new) };
 
     /// Opens an output, which holds what it held before; `None` is standard output. No output was asked
     /// for before; this one is asked for, whatever the answer.

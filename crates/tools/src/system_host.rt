@@ -121,6 +121,11 @@ impl<S: System> Host for SystemHost<S> {
         counted(&mut self.counts.input, opened)
     }
 
+    fn input_is_stdin(&mut self) -> Result<bool, HostFault> {
+        let told = self.run.input_is_stdin();
+        counted(&mut self.counts.input, told)
+    }
+
     fn open_output(&mut self, name: Option<&str>) -> Result<(), HostFault> {
         let opened = self.run.open_output(name);
         counted(&mut self.counts.output, opened)

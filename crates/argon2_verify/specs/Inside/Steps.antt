@@ -1,5 +1,5 @@
 -- What the steps of a run come to.
-use Rattle.std.specs.Prelude.{◌≡◌, ◌+◌, ◌↔◌, ◌≤◌, ℕ, Bool, true, List, Result, Ok, OnOk, IsTrue, length}
+use Rattle.std.specs.Prelude.{◌≡◌, ◌+◌, ◌↔◌, ◌≤◌, ℕ, Bool, true, false, List, Result, Ok, OnOk, IsTrue, length}
 use Rattle.argon.specs.Argon2.{Parameters}
 use Rattle.argon.specs.Counts.{work}
 use Rattle.argon_text.specs.Reading.{fields_at}
@@ -13,10 +13,12 @@ use Rattle.argon2_verify.specs.Reading.{IsFileRefused, after_file_read, hash_lin
 use Rattle.argon2_verify.specs.declared.refusal.VerifyRefusal.{VerifyRefusal}
 use Rattle.argon2_verify.specs.declared.request.Limits.{Limits}
 
--- a line was read, and says this value; on a host that tells its bytes it is the first of the file, and so the host is left
+-- a line was read, and says this value; on a host that tells its bytes it is the first of the file, which is not standard
+-- input itself, and so the host is left
 pub record ReadsHash {Source : Type 0} (decoded : Source → List ℕ → Bool → Source) (tells : Bool) (file : Text) (before after : HostState)
     (v : Value) (memory_before memory_after : Source) : Type 0 where
   pub line : List ℕ
+  pub apart : IsTrue tells → before.input_is_stdin ≡ false
   pub is : IsTrue tells → line ≡ hash_line before.input
   pub left : IsTrue tells → after ≡ after_file_read file before
   pub says : Says line v

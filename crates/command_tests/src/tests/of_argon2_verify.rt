@@ -67,6 +67,8 @@ const BAD_NUMBER: &str = "argon2-verify: bad number";
 
 const FILE_FAULT: &str = "argon2-verify: file cannot be read";
 
+const STDIN: &str = "argon2-verify: file is standard input, which gives the password";
+
 const NOT_HASH: &str = "argon2-verify: the file's first line is no encoded hash";
 
 const OUT_OF_RANGE: &str =
@@ -301,16 +303,41 @@ fn long_passwords(rt: HostRuntime) {
     assert!(rt; is_long(rt.alloc(), "--maxops 525 hash", &[b'p'; 4097], WORK_LIMIT));
 }
 
-// How a run breaks off: the calls are one opening, 83 pulls of a byte, one that finds the end, and one secret.
+// Whether a run ends so whose file is standard input itself, with this call of the host's failing, or none.
+fn is_stdin_refused(alloc: Global, failing: u64, told: &str) -> bool {
+    let mut host = new_host(alloc, TWO_PASSES, b"password", [0; 32]);
+    host.set_input_is_stdin(true);
+    host.fail_at(failing);
+    let status = run_line(alloc, "hash", &mut host);
+    let end = End {
+        status: 2,
+        told,
+        left: TWO_PASSES.len(),
+    };
+    let is_so = ends(&host, status, end) && is_under(host.input_name(), "hash") == (failing != 1);
+    drop(host);
+    is_so
+}
+
+// It is opened, and then refused: nothing of it is read.
+#[test]
+fn standard_input_as_the_file(rt: HostRuntime) {
+    assert!(rt; is_stdin_refused(rt.alloc(), 0, STDIN));
+    assert!(rt; is_stdin_refused(rt.alloc(), 1, FILE_FAULT));
+    assert!(rt; is_stdin_refused(rt.alloc(), 2, FILE_FAULT));
+}
+
+// How a run breaks off: the calls are one opening, one that asks whether that is standard input, 83 pulls of a byte, one
+// that finds the end, and one secret.
 fn broken_off(call: u64) -> End<'static> {
     End {
         status: 2,
-        told: if call == 86 {
+        told: if call == 87 {
             PASSWORD_FAULT
         } else {
             FILE_FAULT
         },
-        left: 83usize.saturating_sub((call as usize).saturating_sub(2)),
+        left: 83usize.saturating_sub((call as usize).saturating_sub(3)),
     }
 }
 
@@ -321,7 +348,7 @@ fn breaks_off(alloc: Global, call: u64, end: End<'_>) -> bool {
 
 #[test]
 fn each_host_call_fails(rt: HostRuntime) {
-    for call in 1..=86u64 {
+    for call in 1..=87u64 {
         assert!(rt; breaks_off(rt.alloc(), call, broken_off(call)), "{call}");
     }
     let right = End {
@@ -330,7 +357,7 @@ fn each_host_call_fails(rt: HostRuntime) {
         left: 0,
     };
     // there is no further call
-    assert!(rt; breaks_off(rt.alloc(), 87, right));
+    assert!(rt; breaks_off(rt.alloc(), 88, right));
 }
 
 // A line that cannot be said is passed over.

@@ -47,6 +47,13 @@ fn runs_failing(alloc: Global, line: &str, failing: u64, end: End<'_>) -> bool {
     ends(alloc, system, end)
 }
 
+// The same of a run whose file is standard input itself.
+fn runs_over_stdin(alloc: Global, end: End<'_>) -> bool {
+    let mut system = process_over(alloc, VERIFY, b"password");
+    system.set_input_is_stdin(true);
+    ends(alloc, system, end)
+}
+
 // The same of a run whose standard error is the file of the hash.
 fn runs_over_error(alloc: Global, line: &str, end: End<'_>) -> bool {
     let mut system = process_over(alloc, line, b"password");
@@ -90,6 +97,15 @@ fn file_that_is_not_there(rt: HostRuntime) {
 }
 
 #[test]
+fn file_that_is_standard_input(rt: HostRuntime) {
+    let end = refusal(
+        2,
+        "argon2-verify: file is standard input, which gives the password",
+    );
+    assert!(rt; runs_over_stdin(rt.alloc(), end));
+}
+
+#[test]
 fn hash_above_a_limit(rt: HostRuntime) {
     let end = refusal(2, "argon2-verify: more memory needed than --maxmem allows");
     assert!(rt;
@@ -102,11 +118,12 @@ fn hash_above_a_limit(rt: HostRuntime) {
     );
 }
 
-// Call 84 opens the password: those before it open the file, and read its line and the line's end.
+// Call 85 opens the password: those before it open the file, ask whether that is standard input, and read its line with
+// the line's end.
 #[test]
 fn password_that_cannot_be_opened(rt: HostRuntime) {
     let end = refusal(2, "argon2-verify: password cannot be read");
-    assert!(rt; runs_failing(rt.alloc(), VERIFY, 84, end));
+    assert!(rt; runs_failing(rt.alloc(), VERIFY, 85, end));
 }
 
 // ProgramRefuses: a word that is no text, though the name may be any bytes

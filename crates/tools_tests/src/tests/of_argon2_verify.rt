@@ -26,11 +26,12 @@ const OTHER: FileIdentity = FileIdentity::Regular {
     inode: 3,
 };
 
-// What a system is like: what standard input gives, which file standard error is, the call that fails, how often each read
+// What a system is like: what standard input gives, whether the file of the hash is standard input itself, which file standard error is, the call that fails, how often each read
 // is interrupted, and how many bytes it gives at most.
 #[derive(Clone, Copy, Drop)]
 struct Setting {
     password: &'static [u8],
+    is_stdin: bool,
     error: Option<FileIdentity>,
     failing: u64,
     interruptions: u64,
@@ -39,6 +40,7 @@ struct Setting {
 
 const RIGHT: Setting = Setting {
     password: b"password",
+    is_stdin: false,
     error: None,
     failing: 0,
     interruptions: 0,
@@ -54,6 +56,7 @@ fn begun(alloc: Global, setting: &Setting) -> SystemHost<MemorySystem>
     let mut system = with_standard(alloc, setting.password, Identities::NONE, Identities::NONE);
     put(alloc, &mut system, "hash", HASH, Identities::of(FILE));
     let _ = system.set_input_name(Some("hash"));
+    system.set_input_is_stdin(setting.is_stdin);
     system.set_standard_error(setting.error);
     system.set_sizes(setting.most.max(1), 1);
     system.set_interrupt_count(setting.interruptions);
@@ -96,17 +99,18 @@ const PASSWORD_FAULT: &str = "argon2-verify: password cannot be read";
 
 const LIMIT: &str = "argon2-verify: more memory needed than --maxmem allows";
 
-// The call of the system that fails, the status and the line: an opening and 84 reads of the file, to the end of its line,
-// and an opening and two reads of standard input.
-static FAILING: [(u64, u8, &str); 8] = [
+// The call of the system that fails, the status and the line: an opening of the file, whether that is standard input, and
+// 84 reads, to the end of its line; and an opening and two reads of standard input.
+static FAILING: [(u64, u8, &str); 9] = [
     (0, 0, ""),
     (1, 2, FILE_FAULT),
     (2, 2, FILE_FAULT),
-    (85, 2, FILE_FAULT),
-    (86, 2, PASSWORD_FAULT),
+    (3, 2, FILE_FAULT),
+    (86, 2, FILE_FAULT),
     (87, 2, PASSWORD_FAULT),
     (88, 2, PASSWORD_FAULT),
-    (89, 0, ""),
+    (89, 2, PASSWORD_FAULT),
+    (90, 0, ""),
 ];
 
 #[test]
@@ -124,7 +128,7 @@ fn each_call_fails(rt: HostRuntime) {
 }
 
 // Words, a system, the status and the line.
-static ENDS: [(&str, Setting, u8, &str); 8] = [
+static ENDS: [(&str, Setting, u8, &str); 9] = [
     ("hash", Setting { most: 1, ..RIGHT }, 0, ""),
     (
         "hash",
@@ -154,6 +158,15 @@ static ENDS: [(&str, Setting, u8, &str); 8] = [
         FILE_FAULT,
     ),
     ("none", RIGHT, 2, FILE_FAULT),
+    (
+        "hash",
+        Setting {
+            is_stdin: true,
+            ..RIGHT
+        },
+        2,
+        "argon2-verify: file is standard input, which gives the password",
+    ),
     ("--maxmem 255 hash", RIGHT, 2, LIMIT),
     // a file that is read gets no line
     (

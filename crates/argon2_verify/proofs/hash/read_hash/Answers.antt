@@ -25,13 +25,14 @@ returns-in-Err-clause-refused g c = record {
       let line = c.in_ok-len.ensures.line t in
       let came : List ℕ = take c.in_ok-len.len c.read_line.new.buf in
       let short : length came ≤ 8191 = grind (arith, common_steps, c.in_ok-len.ensures.short) in
-      inr (
+      inr (inr (
+        c.in_ok-len.ensures.apart t,
         inr (
           subst (λ xs. length xs ≤ 8191) line short,
           (c.in-Err.fault, subst (λ xs. IsReadFaultOfText xs c.in-Err.fault) line c.in-Err.ensures.answer, c.read_refusal.ensures.refusal),
         ),
         c.in_ok-len.ensures.read t,
-      );
+      ));
   memory = record {
     line = take c.in_ok-len.len c.read_line.new.buf;
     is = λ t. c.in_ok-len.ensures.line t;

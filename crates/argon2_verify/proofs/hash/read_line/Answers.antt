@@ -61,6 +61,7 @@ loop-len-preserved g c =
     λ t. subst (λ n. take n c.pull.new.buf ≡ take n (drop k s.input)) only
     (c.in-Ok-pull.ensures.bytes t ∙ ap (take c.in-Ok-pull.n) (left c.args.file.now k s (g.H.Host.seen c.loop-len.host) (i.taken t))) in record {
       fits = omega (arith, c.loop-len-test.true);
+      apart = i.apart;
       grants = c.in-Ok-pull.ensures.granted (omega (arith, only)) ∙ i.grants;
       same = c.in-Ok-pull.ensures.counts ∙ i.same;
       within = λ t. longer k s.input c.pull.new.buf (i.within t) c.pull.auto.buf (came t) (sym c.is_hash_end.ensures.end ∙ c.if-is_hash_end.false);

@@ -1,4 +1,4 @@
-use Rattle.std.proofs.Common.{◌≡◌, ◌≤◌, ◌-◌, IsTrue, length, take}
+use Rattle.std.proofs.Common.{◌≡◌, ◌≤◌, ◌-◌, IsTrue, false, length, take}
 use Rattle.host.specs.CallsGrantedByHost.{with_input_opened}
 use Rattle.argon2_verify.specs.Reading.{after_reading, hash_line}
 use Rattle.argon2_verify.proofs.hash.read_line.Given as goal
@@ -8,6 +8,7 @@ abbrev pub invariant-loop-len : goal.invariant-loop-len
 invariant-loop-len g l =
     let before = g.H.Host.seen l.fn.host in record {
       fits : l.len ≤ 8192;
+      apart : IsTrue g.H.Host.tells → before.input_is_stdin ≡ false;
       grants : g.H.Host.grants l.host ≡ with_input_opened (g.H.Host.grants l.fn.host);
       same : g.H.Host.faults l.host ≡ g.H.Host.faults l.fn.host;
       within : IsTrue g.H.Host.tells → l.len ≤ length (hash_line before.input);
