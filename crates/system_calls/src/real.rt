@@ -175,6 +175,9 @@ impl System for Real {
     }
 
     fn input_is_stdin(&mut self) -> Result<bool, HostFault> {
+        if matches!(self.input, Opened::Nothing) {
+            return Err(HostFault);
+        }
         let input = self.input.told(self.rt, "/proc/self/fd/0")?;
         let stdin = standard_stream_metadata(self.rt, "/proc/self/fd/0")?;
         match (&input, &stdin) {
