@@ -111,7 +111,6 @@ BRANCH, STREAM = first(branch(copied(1, {"Deref": BYTE}))), "pikhsen_c::stream::
 # A rule, the function, and what is put into it.
 TRIALS = [
     ("memory", "argon2_words::request::read_request", first(call((CLONE, 0)))),  # a copy of a word
-    ("memory", "argon2_words::request::read_request", first(call("core::option::Option::map", by=[CLONE]))),  # by a function value
     ("memory", "argon2_words::request::read_request", first(call("libc::heap::rattle_alloc"))),
     ("memory", "argon2_command::run_memory::GlobalRunMemory::matrix", first(call((CLONE, 0)), call((CLONE, 0)))),  # a source, twice
     ("heap", "argon2_command::run::argon2", first(call(
