@@ -27,8 +27,8 @@ pub fn run<S: System>(alloc: Global, system: S) -> (u8, S, RunFailureCounts<S>)
         ProgramSucceeds (S.words system) (S.state system) (S.state result.1) }
     ensures refuses { IsTrue S.tells → result.0 ≡ 1 →
         ProgramRefuses S.tells (S.words system) (S.state system) (S.state result.1) result.2 }
-    // Of every system, also one that tells nothing: there is one refusal. Of the counts only the one that it names rose,
-    // if it names one, and that of lines if its line could not be said.
+    // Of every system, also one that tells nothing: there is one refusal. Of the counts only the one that it names
+    // rose, if it names one, and that of lines if its line could not be said.
     ensures counts_refusal { result.0 ≡ 1 → (told : Argon2Refusal) × (said : Bool)
         × (result.2 ≡ faults_after_line said (faults_after_refusal told no_faults)) }
     ensures fails { IsTrue S.tells → AreFaultsWithinFailures result.2 (S.failures result.1) (S.files result.1) }

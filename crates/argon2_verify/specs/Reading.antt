@@ -38,9 +38,9 @@ abbrev pub IsPasswordRefused : Option (List ℕ) → VerifyRefusal → Type 0
 IsPasswordRefused stdin r =
     (password_in stdin ≡ Err r) ⊎ (r ≡ refusal.PasswordFault) ⊎ ((r ≡ refusal.OutOfMemory) × IsOk (password_in stdin))
 
--- the file has this refusal: the host failed to open it, to tell whether it is standard input itself, or to give a byte of
--- its first line or its end, and fewer than 8,192 came; it is standard input itself, of which nothing is read; or its
--- first line is refused
+-- the file has this refusal: the host failed to open it, to tell whether it is standard input itself, or to give a byte
+-- of its first line or its end, and fewer than 8,192 came; it is standard input itself, of which nothing is read; or
+-- its first line is refused
 abbrev pub IsFileRefused : Text → VerifyRefusal → HostState → HostState → Type 0
 IsFileRefused file r before after =
     ((r ≡ refusal.FileFault) × ((after ≡ before)

@@ -17,8 +17,8 @@ pub use Rattle.argon2_verify.specs.Request.{Request, verify_request}
 use Rattle.argon2_verify.specs.declared.refusal.VerifyRefusal.{VerifyRefusal}
 
 -- what a password is tested by: what the words ask for; the value that a line says, whose hash the limits admit; and a
--- password of at most 4,096 bytes. On a host that tells its bytes the file is not standard input itself, the line is its
--- first, the password is all of standard input, and so the host is left
+-- password of at most 4,096 bytes. On a host that tells its bytes the file is not standard input itself, the line is
+-- its first, the password is all of standard input, and so the host is left
 pub record Inputs (tells : Bool) (words : List Text) (before after : HostState) : Type 0 where
   pub request : Request
   pub of_words : verify_request words ≡ Ok request
@@ -84,8 +84,8 @@ IsRefused r words before after =
     ⊎ RefusesLimits r words before after
     ⊎ RefusesPassword r words before after
 
--- the run ended with status 2: with a refusal, of the counts only the one that it names rose, if it names one; then
--- its line was said, or could not be said and `lines` rose. `told` is the refusal, and `unsaid` the host before the line
+-- the run ended with status 2: with a refusal, of the counts only the one that it names rose, if it names one; then its
+-- line was said, or could not be said and `lines` rose. `told` is the refusal, and `unsaid` the host before the line
 pub record EndsWithRefusal (tells : Bool) (words : List Text) (before after : HostState) (faults_before faults_after : Faults)
     : Type 0 where
   pub told : VerifyRefusal
@@ -93,9 +93,9 @@ pub record EndsWithRefusal (tells : Bool) (words : List Text) (before after : Ho
   pub says : SaysOneLine tells (line_of told) unsaid after (faults_after_refusal told faults_before) faults_after
   pub refused : IsTrue tells → IsRefused told words before unsaid
 
--- the run ended with this status. Of every host, also one that tells nothing: 0 and 1 raise no count, and words that are
--- refused come to 2 and to the line of that refusal. With 0 the password gives the tag, with 1 it does not, and with 2 the
--- run said the line of its refusal
+-- the run ended with this status. Of every host, also one that tells nothing: 0 and 1 raise no count, and words that
+-- are refused come to 2 and to the line of that refusal. With 0 the password gives the tag, with 1 it does not, and
+-- with 2 the run said the line of its refusal
 pub record EndsWithStatus (tells : Bool) (words : List Text) (status : ℕ) (before after : HostState) (faults_before faults_after : Faults)
     : Type 0 where
   pub counts : status ≤ 1 → faults_after ≡ faults_before
@@ -132,8 +132,8 @@ pub record LeavesMemoryWithHash {Source : Type 0} (decoded : Source → List ℕ
   pub says : Says line value
   pub left : IsLeftWithHash matrix value request.limits r (after_text decoded (fields_at line) before) after
 
--- the source of memory at a refusal: want of memory is told only where a request was refused, and no matrix is asked for
--- before every other refusal is ruled out. The line is the first of the file, on a host that tells its bytes
+-- the source of memory at a refusal: want of memory is told only where a request was refused, and no matrix is asked
+-- for before every other refusal is ruled out. The line is the first of the file, on a host that tells its bytes
 pub record LeavesMemory {Source : Type 0} (decoded : Source → List ℕ → Bool → Source)
     (matrix : Source → Parameters → ℕ → ℕ → Bool → Source) (tells : Bool) (words : List Text) (r : VerifyRefusal)
     (seen : HostState) (before after : Source) : Type 0 where

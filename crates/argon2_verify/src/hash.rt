@@ -55,8 +55,9 @@ fn is_hash_end(byte: u8) -> bool
     is_line_end(byte) || byte == 0
 }
 
-// Opens the file, which is refused if it is standard input itself, and puts its first line into the buffer, without its end: how many bytes it has. A byte is pulled at a
-// time, and none behind the line's end: a pipe that stays open is not waited for.
+// Opens the file, which is refused if it is standard input itself, and puts its first line into the buffer, without its
+// end: how many bytes it has. A byte is pulled at a time, and none behind the line's end: a pipe that stays open is not
+// waited for.
 fn read_line<H: Host>(
     host: &mut H,
     file: &str,

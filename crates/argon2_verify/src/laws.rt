@@ -18,8 +18,8 @@ fn one_value_of_a_line()
     ensures unique { (line : List ℕ) (v w : Value) → Says line v → Says line w → v ≡ w }
 {}
 
-// Words and a host come to one end, but where the host fails or memory is refused: no run can both tell that a password is
-// right and that it is not, and where either is so, every refusal is of a failing host or of memory.
+// Words and a host come to one end, but where the host fails or memory is refused: no run can both tell that a password
+// is right and that it is not, and where either is so, every refusal is of a failing host or of memory.
 fn one_answer()
     ensures not_both { (words : List Text) (before after other : HostState) → Verifies true words before after → Differs true words before other → ⊥ }
     ensures state { (words : List Text) (before after other : HostState) → Inputs true words before after → Inputs true words before other → after ≡ other }
@@ -35,8 +35,9 @@ fn one_refusal()
         → IsFromInside q → IsFromInside r → after ≡ other }
 {}
 
-// There is a state in which a run with an answer leaves a host whose file, which is not standard input, says a value, which the limits admit, and whose
-// standard input gives a password: with status 0 where this gives the value's tag, and with status 1 where it does not.
+// There is a state in which a run with an answer leaves a host whose file, which is not standard input, says a value,
+// which the limits admit, and whose standard input gives a password: with status 0 where this gives the value's tag,
+// and with status 1 where it does not.
 fn answer_exists()
     ensures verifies { (words : List Text) (request : Request) (value : Value) (password : List ℕ) (before : HostState)
         → verify_request words ≡ Ok request → before.input_is_stdin ≡ false → Says (hash_line before.input) value → limits_refusal request.limits value ≡ None

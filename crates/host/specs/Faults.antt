@@ -1,7 +1,8 @@
 -- How often the calls of a host have failed.
 use Rattle.std.specs.Prelude.{◌≡◌, ◌+◌, ◌<◌, ℕ, Result, OnOk, OnErr}
 
--- how many calls of each kind failed: `open_input`, `input_is_stdin` and `pull`, `open_output` and `push`, `secret`, `salt`, `say`
+-- how many calls of each kind failed: `open_input`, `input_is_stdin` and `pull`, `open_output` and `push`, `secret`,
+-- `salt`, `say`
 pub record Faults : Type 0 where
   pub input : ℕ
   pub output : ℕ

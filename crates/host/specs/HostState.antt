@@ -12,9 +12,10 @@ pub data SecretSource : Type 0 where
   file : Text → SecretSource
 
 -- the input that is left, whether it is standard input itself, the output so far, the names under which input and
--- output were opened (None: not opened; Some None: the standard stream), the name under which an output was asked for, whether or not it could be opened
--- (None: none was asked for), the secret source that was asked (None: none was), whether a salt was asked for, the
--- lines said so far, the bytes of the secret sources (None: it is not there), and the salt
+-- output were opened (None: not opened; Some None: the standard stream), the name under which an output was asked for,
+-- whether or not it could be opened (None: none was asked for), the secret source that was asked (None: none was),
+-- whether a salt was asked for, the lines said so far, the bytes of the secret sources (None: it is not there), and the
+-- salt
 pub record HostState : Type 0 where
   pub input : List ℕ
   pub input_is_stdin : Bool

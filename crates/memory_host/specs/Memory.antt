@@ -5,9 +5,9 @@ use Rattle.host.specs.Faults.{Faults, no_faults}
 use Rattle.host.specs.CallsGrantedByHost.{CallsGrantedByHost}
 use Rattle.host.specs.Entries.{Entry, lookup}
 
--- a host in memory: its bytes, names and lines, whether its input is standard input itself, and may be pulled from, its counts of failures, the
--- greatest sizes of a pull and of a push in bytes, the number of the call that is to fail (0: none), and how many
--- calls there were
+-- a host in memory: its bytes, names and lines, whether its input is standard input itself, and may be pulled from, its
+-- counts of failures, the greatest sizes of a pull and of a push in bytes, the number of the call that is to fail (0:
+-- none), and how many calls there were
 pub record Memory : Type 0 where
   pub input : List ℕ
   pub input_is_stdin : Bool

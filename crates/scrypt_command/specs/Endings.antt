@@ -18,8 +18,8 @@ pub record EndsAtWords {A : Type 0} (words : List Text) (result : Result A Scryp
   pub counts : IsOfNoFailedCall refusal
   pub no_work : cores_after ≡ cores_before
 
--- the request that the words make was run once: so it succeeded, or was refused; it took no more cores than its limit, and
--- where it ended well, or after its derivation, exactly those of one
+-- the request that the words make was run once: so it succeeded, or was refused; it took no more cores than its limit,
+-- and where it ended well, or after its derivation, exactly those of one
 pub record RunsRequest {A : Type 0} (tells : Bool) (words : List Text) (result : Result A ScryptRefusal) (before after : HostState)
     (cores_before cores_after : ℕ) : Type 0 where
   pub request : Request

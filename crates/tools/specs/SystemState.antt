@@ -16,12 +16,13 @@ pub record Source : Type 0 where
   pub left : List ℕ
   pub is_ended : Bool
 
--- the input, whether that is standard input itself, whatever its name; a secret's source and the random bytes; what was written; the name under which an output was asked for,
--- whatever came of it (None: none was; Some None: standard output); whether nothing that the output held is to be taken
--- away any more, and whether it was emptied; whether it is kept: a regular file or a block device that was opened by its
--- name; whether it was asked to be brought to the disk, whatever came of it, and whether it was brought there; whether
--- a line was asked for, whatever came of it, and the lines said so far; what standard input gives from its beginning, if
--- it is there, and what each file does, other than as the input; and the variables
+-- the input, whether that is standard input itself, whatever its name; a secret's source and the random bytes; what was
+-- written; the name under which an output was asked for, whatever came of it (None: none was; Some None: standard
+-- output); whether nothing that the output held is to be taken away any more, and whether it was emptied; whether it is
+-- kept: a regular file or a block device that was opened by its name; whether it was asked to be brought to the disk,
+-- whatever came of it, and whether it was brought there; whether a line was asked for, whatever came of it, and the
+-- lines said so far; what standard input gives from its beginning, if it is there, and what each file does, other than
+-- as the input; and the variables
 pub record SystemState : Type 0 where
   pub input : Source
   pub input_is_stdin : Bool
@@ -204,8 +205,8 @@ abbrev pub after_sync : SystemState → SystemState
 after_sync w = record w { sync_asked = true; is_synced = true }
 
 -- what the output held was taken away, if it is a regular file that was opened by its name; what was written is on the
--- disk, where the output is kept; and no other output was asked to be brought there. (Nothing is written or emptied once
--- it was asked to be: that is a condition of these calls.)
+-- disk, where the output is kept; and no other output was asked to be brought there. (Nothing is written or emptied
+-- once it was asked to be: that is a condition of these calls.)
 pub record IsOutputSynced (w : SystemState) : Type 0 where
   pub new : w.is_new ≡ true
   pub synced : w.is_kept ≡ true → w.is_synced ≡ true

@@ -13,8 +13,8 @@ use Rattle.argon2_verify.specs.Reading.{IsFileRefused, after_file_read, hash_lin
 use Rattle.argon2_verify.specs.declared.refusal.VerifyRefusal.{VerifyRefusal}
 use Rattle.argon2_verify.specs.declared.request.Limits.{Limits}
 
--- a line was read, and says this value; on a host that tells its bytes it is the first of the file, which is not standard
--- input itself, and so the host is left
+-- a line was read, and says this value; on a host that tells its bytes it is the first of the file, which is not
+-- standard input itself, and so the host is left
 pub record ReadsHash {Source : Type 0} (decoded : Source → List ℕ → Bool → Source) (tells : Bool) (file : Text) (before after : HostState)
     (v : Value) (memory_before memory_after : Source) : Type 0 where
   pub line : List ℕ
@@ -24,8 +24,8 @@ pub record ReadsHash {Source : Type 0} (decoded : Source → List ℕ → Bool �
   pub says : Says line v
   pub memory : memory_after ≡ after_text decoded (fields_at line) memory_before
 
--- a step with this result, and what the host grants before and after it: where it ends well, every call but a pull is granted
--- as once the input is opened
+-- a step with this result, and what the host grants before and after it: where it ends well, every call but a pull is
+-- granted as once the input is opened
 abbrev pub GrantsAsOpened : {A : Type 0} → Result A VerifyRefusal → CallsGrantedByHost → CallsGrantedByHost → Type 0
 GrantsAsOpened result before after = OnOk result (GrantsAllButPullsAsBefore (with_input_opened before) after)
 

@@ -235,8 +235,8 @@ fn words_that_are_refused(rt: HostRuntime) {
     }
 }
 
-// A file whose first line is no hash, and how many of its bytes are left: at most 8,192 are read. The line is told before
-// the password is read, which would be too long.
+// A file whose first line is no hash, and how many of its bytes are left: at most 8,192 are read. The line is told
+// before the password is read, which would be too long.
 static NO_HASHES: [(&[u8], usize); 10] = [
     (b"", 0),
     (
@@ -327,8 +327,8 @@ fn standard_input_as_the_file(rt: HostRuntime) {
     assert!(rt; is_stdin_refused(rt.alloc(), 2, FILE_FAULT));
 }
 
-// How a run breaks off: the calls are one opening, one that asks whether that is standard input, 83 pulls of a byte, one
-// that finds the end, and one secret.
+// How a run breaks off: the calls are one opening, one that asks whether that is standard input, 83 pulls of a byte,
+// one that finds the end, and one secret.
 fn broken_off(call: u64) -> End<'static> {
     End {
         status: 2,

@@ -26,8 +26,8 @@ const OTHER: FileIdentity = FileIdentity::Regular {
     inode: 3,
 };
 
-// What a system is like: what standard input gives, whether the file of the hash is standard input itself, which file standard error is, the call that fails, how often each read
-// is interrupted, and how many bytes it gives at most.
+// What a system is like: what standard input gives, whether the file of the hash is standard input itself, which file
+// standard error is, the call that fails, how often each read is interrupted, and how many bytes it gives at most.
 #[derive(Clone, Copy, Drop)]
 struct Setting {
     password: &'static [u8],
@@ -99,8 +99,8 @@ const PASSWORD_FAULT: &str = "argon2-verify: password cannot be read";
 
 const LIMIT: &str = "argon2-verify: more memory needed than --maxmem allows";
 
-// The call of the system that fails, the status and the line: an opening of the file, whether that is standard input, and
-// 84 reads, to the end of its line; and an opening and two reads of standard input.
+// The call of the system that fails, the status and the line: an opening of the file, whether that is standard input,
+// and 84 reads, to the end of its line; and an opening and two reads of standard input.
 static FAILING: [(u64, u8, &str); 9] = [
     (0, 0, ""),
     (1, 2, FILE_FAULT),
