@@ -12,12 +12,14 @@ pub enum VerifyRefusal {
     Usage,
     /// V2: a value of another form, or out of its option's range. `argon2-verify: bad number`
     BadNumber,
-    /// V3: the host fails to open the file, or to read it. `argon2-verify: file cannot be read`
+    /// V3: the host fails to open the file, or to tell whether it is standard input itself, or then to give a byte
+    /// of its first line or the end of that. `argon2-verify: file cannot be read`
     FileFault,
-    /// V9: it is standard input itself, under whatever name.
+    /// V9: the file is standard input itself, under whatever name. It is opened, and nothing of it is read.
     /// `argon2-verify: file is standard input, which gives the password`
     FileIsStdin,
-    /// V4: the first line of the file is no encoded text, or has more than 8,191 bytes.
+    /// V4: the first line of the file, up to a CR, an LF, a byte 0 or the file's end, is no encoded text, or has more
+    /// than 8,191 bytes.
     /// `argon2-verify: the file's first line is no encoded hash`
     NotHash,
     /// V5: it is one, and a number, or the length of its salt or tag, is out of range.
