@@ -104,7 +104,7 @@ one_of_line line q r (inr (_, (NotInGrammar, lacks, _))) (inr (_, (OutOfRange, h
 one_of_line line q r (inr (_, (OutOfRange, has, _))) (inr (_, (NotInGrammar, lacks, _))) i j = absurd (let wrong : ⊥ = lacks has.0 in wrong)
 
 -- a file is not both
-not_apart : {P : Type 0} (s : HostState) → s.input_is_stdin ≡ true → s.input_is_stdin ≡ false → P
+pub not_apart : {P : Type 0} (s : HostState) → s.input_is_stdin ≡ true → s.input_is_stdin ≡ false → P
 not_apart s is apart = absurd (let wrong : ⊥ = subst IsWrong (sym apart ∙ is) tt in wrong)
 
 -- a password that is refused from inside is so for its length

@@ -1,5 +1,5 @@
 //! Laws of the definitions: each function has no body, and its clauses are the law.
-ghost use Rattle.std.specs.Prelude.{◌≡◌, ◌≢◌, ◌≤◌, ℕ, List, None, Some, Ok, true, false, length};
+ghost use Rattle.std.specs.Prelude.{◌≡◌, ◌≢◌, ◌≤◌, ◌++◌, ◌∷◌, [], ℕ, List, None, Some, Ok, true, false, length};
 ghost use Rattle.argon_text.specs.Grammar.{IsEncodedTextInRange};
 ghost use Rattle.argon_text.specs.Value.{Value};
 ghost use Rattle.host.specs.HostState.{HostState, Text};
@@ -47,4 +47,34 @@ fn answer_exists()
         → verify_request words ≡ Ok request → before.input_is_stdin ≡ false → Says (hash_line before.input) value → limits_refusal request.limits value ≡ None
         → before.stdin ≡ Some password → length password ≤ 4096 → tag_of_password value password ≢ value.tag
         → (after : HostState) × Differs true words before after }
+{}
+
+// What stands behind the end of the first line changes no end of a run: where a host comes to an answer or a refusal,
+// one that differs in nothing but what stands there comes to it, too; and to no other, by `one_answer` and
+// `one_refusal`, but where the host fails or memory is refused. An answer leaves of the input exactly what stood behind
+// the line's end, and nothing where the line has none; a refusal leaves no less.
+fn nothing_behind_the_line()
+    ensures verifies { (words : List Text) (before after : HostState) (input : List ℕ) → hash_line input ≡ hash_line before.input
+        → Verifies true words before after → (left : HostState) × Verifies true words (record before { input = input }) left }
+    ensures differs { (words : List Text) (before after : HostState) (input : List ℕ) → hash_line input ≡ hash_line before.input
+        → Differs true words before after → (left : HostState) × Differs true words (record before { input = input }) left }
+    ensures refused { (words : List Text) (before after : HostState) (r : VerifyRefusal) (input : List ℕ) → hash_line input ≡ hash_line before.input
+        → IsRefused r words before after → (left : HostState) × IsRefused r words (record before { input = input }) left }
+    ensures left { (words : List Text) (before after : HostState) (line_end : ℕ) (behind : List ℕ)
+        → before.input ≡ hash_line before.input ++ line_end ∷ behind → Inputs true words before after → after.input ≡ behind }
+    ensures none_left { (words : List Text) (before after : HostState)
+        → before.input ≡ hash_line before.input → Inputs true words before after → after.input ≡ [] }
+    ensures no_less_left { (words : List Text) (before after : HostState) (r : VerifyRefusal) (line_end : ℕ) (behind : List ℕ)
+        → before.input ≡ hash_line before.input ++ line_end ∷ behind → IsRefused r words before after
+        → (unread : List ℕ) × (after.input ≡ unread ++ behind) }
+{}
+
+// Where the file is standard input itself, no run gives an answer, and at a refusal no byte of the input was read, and
+// no password was asked for.
+fn nothing_of_standard_input()
+    ensures unanswered { (words : List Text) (before after : HostState) → before.input_is_stdin ≡ true → Inputs true words before after → ⊥ }
+    ensures unread { (words : List Text) (before after : HostState) (r : VerifyRefusal)
+        → before.input_is_stdin ≡ true → IsRefused r words before after → after.input ≡ before.input }
+    ensures unasked { (words : List Text) (before after : HostState) (r : VerifyRefusal)
+        → before.input_is_stdin ≡ true → IsRefused r words before after → after.asked ≡ before.asked }
 {}
