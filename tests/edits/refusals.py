@@ -7,8 +7,8 @@
 What a refusal is, says body_trial.py; how edits are written, edits.py. One that is not refused has
 failed, and so has one that is refused at another goal than the one below its lines, unless with --told.
 
-Of each crate of which a body is tried, the functions that these edits change are proved first as they are, over the libraries
-that rt ci left, or that are built where there are none. Their proofs stay in out/incremental, since rt ci keeps its own.
+Of each crate of which a body is tried, the functions that these edits change are checked first as they are, without the search,
+over the libraries that rt ci left, or that are built where there are none. What stands below stays in out/incremental.
 """
 import argparse
 import os
@@ -62,29 +62,24 @@ class Run:
                 rt.linked(kept, f"{room}/kept")
             return call(f"{room}/sources", f"{room}/kept")
 
-    def prove(self, name, jobs):
-        """Whether what a crate's edits change is proved as it is, into out/incremental, and leaves no goal open in a check as trials are."""
+    def look(self, name):
+        """Whether it is known what the search closes of what a crate's edits change; the check of it leaves what stands below."""
         it, begun = self.crates[name], time.monotonic()
-        flags = ["--jobs", str(jobs), *(f"--only={place}" for place in body_trial.changed(it.edits))]
-        ran = rt.checked(it.crate, {}, flags, f"{it.crate.folder}/out/incremental")
-        why = (ran.stdout[-2000:] or "its check prints nothing") if ran.returncode else ""
-        if not why:
-            it.known = self.over_kept(name, lambda *room: body_trial.closed_by_search(it.crate, it.edits, *room))
-            goals = body_trial.wanted(it.edits)
-            left = self.over_kept(name, lambda *room: body_trial.shared(it.crate, {}, goals, *room, it.known))
-            why = "" if left == {} else f"with answers that belong to no goal its right bodies leave some open: {left}"
-        self.say(f"{name}: {why or f'proved as it is, {time.monotonic() - begun:.0f} s'}", name if why else None)
-        return not why
+        it.known = body_trial.closed_by_search(it.crate, it.edits, f"{self.room}/{name}/sources", f"{it.crate.folder}/out/incremental")
+        self.say(f"{name}: {'seen' if it.known else 'not read'} as it is, {time.monotonic() - begun:.0f} s", None if it.known else name)
+        return bool(it.known)
 
-    def attempt(self, name, edits, texts):
+    def attempt(self, name, group):
         """Tries a group over what the crate keeps, and judges what came of it."""
         it, begun = self.crates[name], time.monotonic()
-        answers = self.over_kept(name, lambda *room: body_trial.tried(it.crate, edits, texts, *room, it.known))
+        verdicts, left = self.over_kept(name, lambda *room: group.verdicts(*room, it.known))
         with self.lock:
-            for edit, answer in zip(edits, answers):
-                self.judge(edit, *answer)
-            self.done += len(edits)
-            self.say(f"{name}: {len(edits)} tried, {time.monotonic() - begun:.0f} s ({self.done} of {self.all})")
+            for place, goals in left.items():
+                self.say(f"{name}::{place}, as it is, leaves open: {goals}", f"{name}::{place}")
+            for verdict in verdicts:
+                self.judge(*verdict)
+            self.done += len(verdicts)
+            self.say(f"{name}: {len(verdicts)} tried, {time.monotonic() - begun:.0f} s ({self.done} of {self.all})")
 
     def judge(self, edit, goal, said=""):
         """Whether an edit is refused at its goal; with --told the goal that refuses it becomes that."""
@@ -111,13 +106,12 @@ class Run:
             waits = [(it.name, "library") for it in crate.below()]
             put((crate.name, "library"), crate, 9, waits, lambda jobs, it=crate: self.build(it, jobs))
         for crate in needed:
-            it, name, proof = self.crates[crate.name], crate.name, (crate.name, "proof")
+            it, name, first = self.crates[crate.name], crate.name, (crate.name, "proof")
             waits = [(made.name, "library") for made in [*crate.below(), crate] if made in built]
-            if body_trial.changed(it.edits):
-                put(proof, crate, 9, waits, lambda jobs, name=name: self.prove(name, jobs))
-            for at, (group, texts) in enumerate(body_trial.in_groups(it.edits)):
-                put((name, "edits", at), crate, len(group), [proof] if proof in found else waits,
-                    lambda jobs, name=name, group=group, texts=texts: self.attempt(name, group, texts))
+            put(first, crate, 9, waits, lambda jobs, name=name: self.look(name))
+            for at, group in enumerate(body_trial.in_groups(crate, it.edits)):
+                put((name, "edits", at), crate, len(group.tried), [first],
+                    lambda jobs, name=name, group=group: self.attempt(name, group))
         return found
 
 

@@ -32,16 +32,43 @@ def opens_at(lines, start, indent):
     return next(at for at in range(start, len(lines)) if own.match(lines[at]))
 
 
+class Function:
+    """A function of a source: its lines, from those above it that are its own to its last; the one that names it, and the one
+    that opens its body, which a trait's method may lack; and the heading of the block that it stands in, if it is in one."""
+
+    def __init__(self, lines, start, found):
+        self.name, self.starts, self.opens = found[2], start, opens_at(lines, start, found[1])
+        self.has_body = not lines[self.opens].endswith(";")
+        self.ends = lines.index(found[1] + "}", self.opens) if lines[self.opens].endswith("{") else self.opens
+        above = [it for line in lines[:start] if found[1] and (it := IMPL.match(line) or TRAIT.match(line))]
+        self.block = above[-1] if above else None
+        while lines[start - 1].lstrip().startswith(("#[", "//")):
+            start -= 1
+        self.begins = start
+
+    @property
+    def is_of_trait(self):
+        """Whether it is a method of a trait, so that none can stand beside it."""
+        return self.block is not None and (self.block.re is TRAIT or self.block[1] is not None)
+
+    def path(self, folder, file):
+        return path_of(folder, file, self.block, self.name)
+
+
+def functions_in(text):
+    """The functions of a source, in its order."""
+    lines = text.split("\n")
+    return [Function(lines, start, found) for start, found in enumerate(map(FUNCTION.match, lines)) if found]
+
+
 def function_at(folder, file, text, line, body=False):
     """The path of the function that holds this line of a source, in its body, if asked, which a trait's method may lack."""
-    lines = text.split("\n")
-    for start, found in enumerate(map(FUNCTION.match, lines)):
-        if found:
-            opens = opens_at(lines, start, found[1])
-            ends = lines.index(found[1] + "}", opens) if lines[opens].endswith("{") else opens
-            while lines[start - 1].lstrip().startswith("#["):
-                start -= 1
-            if (opens if body else start) <= line <= ends and not (body and lines[opens].endswith(";")):
-                above = [it for line in lines[:start] if found[1] and (it := IMPL.match(line) or TRAIT.match(line))]
-                return path_of(folder, file, above[-1] if above else None, found[2])
+    for it in functions_in(text):
+        if (it.opens if body else it.begins) <= line <= it.ends and (it.has_body or not body):
+            return it.path(folder, file)
     return None
+
+
+def function_of(folder, file, text, place):
+    """The function of a source that has this path."""
+    return next(it for it in functions_in(text) if it.path(folder, file) == place)
