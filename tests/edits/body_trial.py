@@ -257,7 +257,9 @@ class Group:
         found = shared(self.crate, texts, asked, folder, kept, known_here, by_search, proofs)
         said = [(it, it.goal, "") if it.goal in refusing(places, found or {}) else (it, *alone(self.crate, it, folder, kept, known))
                 for it, places in self.tried.items()]
-        return said, {it: found.get(it) if found else "its check is not read" for it in self.right if not found or found.get(it)}
+        if found is None:
+            return said, dict.fromkeys(self.right, "its check is not read")
+        return said, {it: found[it] for it in self.right if it in found}
 
 
 def in_groups(crate, edits):
