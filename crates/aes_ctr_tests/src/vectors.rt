@@ -1,8 +1,9 @@
 //! The checker computes the definitions on vectors: each function has no body, and its clause is the vector.
 ghost use Rattle.std.specs.Prelude.{◌≡◌, ◌+◌, ◌-◌, ◌*◌, ◌^◌, [], ◌∷◌, drop, map, replicate};
 ghost use Rattle.std.specs.List.{range_with_len};
-ghost use Rattle.aes_ctr.specs.Aes.{aes256, inverse, key_schedule, product, sub_byte, word_at};
+ghost use Rattle.aes_ctr.specs.Aes.{aes256, inverse, key_of, key_schedule, key_words, product, sub_byte, word_at};
 ghost use Rattle.aes_ctr.specs.CounterMode.{counter_mode_from, key_stream_block};
+ghost use Rattle.aes_ctr.specs.Planes.{round_key};
 
 // FIPS 197, 4.2
 fn product_of_57_and_83()
@@ -65,4 +66,11 @@ fn byte_past_2_32_blocks()
 // The byte after the last one of a block is the first of the next block, here of that one, with a byte 0xFF.
 fn byte_of_the_next_block()
     ensures byte { drop 1 (counter_mode_from (range_with_len 0 32) (16 * (2 ^ 32 + 4) - 1) (0 ∷ 0xFF ∷ [])) ≡ 0xC5 ∷ [] }
+{}
+
+// The key is the first eight words of its schedule, and each round has four of the words (FIPS 197, 5.1.4 and 5.2).
+fn parts_of_a_schedule()
+    ensures key { key_of (map (λ i. i ∷ []) (range_with_len 0 60)) ≡ range_with_len 0 8 }
+    ensures words { key_of (key_words (range_with_len 0 32) 8) ≡ range_with_len 0 32 }
+    ensures round { round_key (map (λ i. (4 * i) ∷ (4 * i + 1) ∷ (4 * i + 2) ∷ (4 * i + 3) ∷ []) (range_with_len 0 60)) 2 ≡ range_with_len 32 16 }
 {}

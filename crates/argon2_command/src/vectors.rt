@@ -1,5 +1,6 @@
 //! The definitions of argon2's output, run on what the reference program gives.
-ghost use Rattle.std.specs.Prelude.{◌≡◌, ◌+◌, ℕ, List, [], ◌∷◌, ◌++◌, Ok, Err, None, Some, codes, false, is_ok, map, replicate, true};
+ghost use Rattle.std.specs.Prelude.{◌≡◌, ◌+◌, Bool, ℕ, List, [], ◌∷◌, ◌++◌, Ok, Err, None, Some, codes, false, is_ok, map, replicate, true};
+ghost use Rattle.argon.specs.Argon2.{argon2_tag};
 ghost use Rattle.argon_text.specs.Vectors.{sample_encoded_text, sample_encoded_value};
 ghost use Rattle.argon2_command.specs.MemoryRequestEffects.{after_all_requests};
 ghost use Rattle.argon2_command.specs.Output.{Encoded, Hex, argon2_command_output, output_for, parameters_of, password_in, request_work, tag_line, tag_of};
@@ -89,4 +90,21 @@ fn requests_of_a_run()
         })
         (record { salt = codes "somesalt"; settings = defaults; form = Hex }) (record { kind = 1; version = 0x13; passes = 3; lanes = 1; memory_kib = 4096; tag_len = 32; salt_len = 8; password_len = 2 }) []
         ≡ 4096 ∷ 35 ∷ 32 ∷ [] }
+    ensures granted { after_all_requests {Source = List Bool}
+        (record {
+          after_zeros = λ asked bytes granted. granted ∷ asked;
+          after_line = λ asked request bytes granted. granted ∷ asked;
+          after_matrix = λ asked parameters granted. granted ∷ asked;
+        })
+        (record { salt = codes "somesalt"; settings = defaults; form = Hex }) (record { kind = 1; version = 0x13; passes = 3; lanes = 1; memory_kib = 4096; tag_len = 32; salt_len = 8; password_len = 2 }) []
+        ≡ true ∷ true ∷ true ∷ [] }
+{}
+
+// Password and salt each go to their own place, and there is neither a secret nor associated data (RFC 9106, 3.1).
+fn inputs_of_a_tag()
+    ensures tag { (tag : List ℕ) → argon2_tag
+        (record { kind = 0; version = 0x13; passes = 1; lanes = 1; memory_kib = 8; tag_len = 32; salt_len = 8; password_len = 8 })
+        (record { password = codes "password"; salt = codes "somesalt"; secret = []; associated = [] }) ≡ tag →
+        tag_of (codes "somesalt") (codes "password")
+        (record { kind = 0; version = 0x13; passes = 1; lanes = 1; memory_kib = 8; tag_len = 32; salt_len = 8; password_len = 8 }) ≡ tag }
 {}

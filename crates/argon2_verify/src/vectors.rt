@@ -34,6 +34,8 @@ fn refusals_of_words()
     ensures two_files { verify_request (codes "a" ∷ codes "b" ∷ []) ≡ Err refusal.Usage }
     ensures no_memory { verify_request (codes "--maxmem" ∷ codes "0" ∷ codes "a" ∷ []) ≡ Err refusal.BadNumber }
     ensures memory_above { verify_request (codes "--maxmem" ∷ codes "4294967296" ∷ codes "a" ∷ []) ≡ Err refusal.BadNumber }
+    ensures least_work { verify_request (codes "--maxops" ∷ codes "1" ∷ codes "a" ∷ [])
+        ≡ Ok (record { file = codes "a"; limits = record { max_kib = 4194304; max_ops = 1 } }) }
     ensures no_work { verify_request (codes "--maxops" ∷ codes "0" ∷ codes "a" ∷ []) ≡ Err refusal.BadNumber }
     ensures work_above { verify_request (codes "--maxops" ∷ codes "9223372036854775808" ∷ codes "a" ∷ []) ≡ Err refusal.BadNumber }
     ensures number_first { verify_request (codes "--maxops" ∷ codes "x" ∷ codes "-q" ∷ codes "1" ∷ codes "a" ∷ []) ≡ Err refusal.BadNumber }
@@ -87,13 +89,28 @@ fn counts_of_refusals()
     ensures file { (faults_after_refusal refusal.FileFault no_faults).input ≡ 1 }
     ensures password { (faults_after_refusal refusal.PasswordFault no_faults).secrets ≡ 1 }
     ensures others { faults_after_refusal refusal.LongPassword no_faults ≡ no_faults }
-    ensures line { line_of refusal.OutOfMemory ≡ codes "argon2-verify: out of memory" }
+{}
+
+// docs/REFUSALS.md, the table of argon2-verify: the line of each.
+fn lines_of_refusals()
+    ensures usage { line_of refusal.Usage ≡ codes "argon2-verify: usage: argon2-verify [--maxmem KIB] [--maxops N] file" }
+    ensures bad_number { line_of refusal.BadNumber ≡ codes "argon2-verify: bad number" }
+    ensures file { line_of refusal.FileFault ≡ codes "argon2-verify: file cannot be read" }
+    ensures file_is_stdin { line_of refusal.FileIsStdin ≡ codes "argon2-verify: file is standard input, which gives the password" }
+    ensures not_hash { line_of refusal.NotHash ≡ codes "argon2-verify: the file's first line is no encoded hash" }
+    ensures out_of_range { line_of refusal.OutOfRange ≡ codes "argon2-verify: a number of the hash, or the length of its salt or tag, is out of range" }
+    ensures memory_limit { line_of refusal.MemoryLimit ≡ codes "argon2-verify: more memory needed than --maxmem allows" }
+    ensures work_limit { line_of refusal.WorkLimit ≡ codes "argon2-verify: more work needed than --maxops allows" }
+    ensures password { line_of refusal.PasswordFault ≡ codes "argon2-verify: password cannot be read" }
+    ensures long_password { line_of refusal.LongPassword ≡ codes "argon2-verify: password is longer than 4096 bytes" }
+    ensures out_of_memory { line_of refusal.OutOfMemory ≡ codes "argon2-verify: out of memory" }
 {}
 
 // The salt and then the tag of the text's fields, and the matrix of the value's parameters, under the limits.
 fn requests_for_memory()
     ensures text { after_text (λ before symbols granted. symbols ++ 0 ∷ before) (Some sample_encoded_fields) []
         ≡ sample_encoded_fields.tag ++ 0 ∷ (sample_encoded_fields.salt ++ 0 ∷ []) }
+    ensures granted { after_text (λ before symbols granted. granted ∷ before) (Some sample_encoded_fields) [] ≡ true ∷ true ∷ [] }
     ensures no_text { after_text (λ before symbols granted. symbols) None (codes "s") ≡ codes "s" }
     ensures matrix { after_matrix (λ before p max_kib max_ops granted. before + p.memory_kib + p.password_len + max_kib + max_ops)
         sample_encoded_value (codes "pw") (record { max_kib = 100; max_ops = 1000 }) true 10000 ≡ 11110 }

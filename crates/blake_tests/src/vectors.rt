@@ -1,8 +1,9 @@
 //! The definitions of specs/ on vectors from outside. No code runs here: that an equation holds is
 //! the contract of an empty function, and the check computes it from the definitions alone.
-ghost use Rattle.std.specs.Prelude.{◌≡◌, [], ◌∷◌, codes, replicate};
+ghost use Rattle.std.specs.Prelude.{◌≡◌, [], ◌∷◌, ◌+◌, ◌-◌, ◌*◌, ◌^◌, ◌++◌, codes, drop, false, replicate};
 ghost use Rattle.std.specs.List.{range_with_len};
-ghost use Rattle.blake.specs.Blake2b.{blake2b};
+ghost use Rattle.blake.specs.Blake2b.{blake2b, work_vector};
+ghost use Rattle.blake.specs.Words.{with_words_at, word_sum, words};
 ghost use Rattle.blake.specs.LongHash.{long_hash};
 
 // The hash of "abc" is that of RFC 7693, appendix A; the others are by Python's hashlib.blake2b: of
@@ -160,4 +161,16 @@ fn long_hashes()
         0xC7 ∷ 0x6B ∷ 0xB0 ∷ 0xA4 ∷ 0xBD ∷ 0x1F ∷ 0xC3 ∷ 0xF8 ∷ 0xFE ∷ 0x81 ∷ 0x9E ∷ 0x96 ∷
         0xFB ∷ 0xFD ∷ 0xC5 ∷ 0x0B ∷ 0xA0 ∷ 0x19 ∷ 0x4A ∷ 0xBC ∷ 0x94 ∷ 0x0E ∷ 0xC7 ∷ 0xCD ∷
         0xC9 ∷ 0xFF ∷ 0xF8 ∷ 0xA0 ∷ [] }
+{}
+
+// The greatest words, and as many bytes as no message here has: t has two words (RFC 7693, 2.4, 3.1 and 3.2, by hand). The IV is
+// that of 2.6.
+fn words_and_counts_by_hand()
+    ensures two_words { words 2 (1 ∷ replicate 7 0 ++ 2 ∷ replicate 7 0) ≡ 1 ∷ 2 ∷ [] }
+    ensures sum { word_sum (2 ^ 64 - 1) 2 ≡ 1 }
+    ensures half_of_the_sum { word_sum (2 ^ 63) (2 ^ 63 + 5) ≡ 5 }
+    ensures high_count { drop 8 (work_vector (replicate 8 0) (3 * 2 ^ 64 + 5) false) ≡
+        0x6A09E667F3BCC908 ∷ 0xBB67AE8584CAA73B ∷ 0x3C6EF372FE94F82B ∷ 0xA54FF53A5F1D36F1 ∷
+        0x510E527FADE682D4 ∷ 0x9B05688C2B3E6C1C ∷ 0x1F83D9ABFB41BD6B ∷ 0x5BE0CD19137E2179 ∷ [] }
+    ensures fewer_words { with_words_at (1 ∷ 2 ∷ []) (0 ∷ []) [] ≡ 1 ∷ 2 ∷ [] }
 {}

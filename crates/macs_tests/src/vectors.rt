@@ -28,7 +28,7 @@ fn hmac_sha256_codes()
         0x68 ∷ 0x3B ∷ 0xD9 ∷ 0x6B ∷ 0x8C ∷ 0x62 ∷ 0x61 ∷ 0xF8 ∷ [] }
 {}
 
-// RFC 7914, section 11, the first vector, and its first 33 bytes: of the second block one byte is taken.
+// RFC 7914, section 11, the first vector, and its first 33 bytes and its first: of a block one byte is taken.
 fn pbkdf2_keys()
     ensures of_64_bytes { pbkdf2 (codes "passwd") (codes "salt") 64 ≡
         0x55 ∷ 0xAC ∷ 0x04 ∷ 0x6E ∷ 0x56 ∷ 0xE3 ∷ 0x08 ∷ 0x9F ∷
@@ -45,4 +45,5 @@ fn pbkdf2_keys()
         0xF9 ∷ 0x41 ∷ 0x85 ∷ 0x21 ∷ 0x6D ∷ 0xDE ∷ 0x04 ∷ 0x65 ∷
         0xE6 ∷ 0x8B ∷ 0x9D ∷ 0x57 ∷ 0xC2 ∷ 0x0D ∷ 0xAC ∷ 0xBC ∷
         0x49 ∷ [] }
+    ensures of_1_byte { pbkdf2 (codes "passwd") (codes "salt") 1 ≡ 0x55 ∷ [] }
 {}

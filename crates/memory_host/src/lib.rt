@@ -5,6 +5,7 @@
 mod growth_memory;
 mod memory;
 mod named_secret;
+mod vectors;
 
 pub use growth_memory::GrowthMemory;
 pub use memory::MemoryHost;

@@ -6,4 +6,4 @@ use Rattle.macs_tests.proofs.vectors.pbkdf2_keys.Goals as goal
 
 pub returns : goal.returns
 unfolding compress digest_bytes first_words hash_after rounds schedule sha256 hmac_sha256 key_block joined_blocks pbkdf2
-returns c = record { of_64_bytes = refl; of_33_bytes = refl }
+returns c = record { of_64_bytes = refl; of_33_bytes = refl; of_1_byte = refl }
