@@ -1,19 +1,19 @@
 //! What the checker computes of the definitions in specs/: each function's clause is an equation,
 //! which is proved by computing both sides. So the definitions are run, and not the code.
-ghost use Rattle.std.specs.Prelude.{◌≡◌, ◌+◌, ◌-◌, ◌*◌, ◌%◌, ◌^◌, ◌<◌, ◌++◌, [], ◌∷◌, Ok, Err, None, Some, codes, false, is_some, length, map, replicate, true};
+ghost use Rattle.std.specs.Prelude.{◌≡◌, ◌+◌, ◌-◌, ◌*◌, ◌/◌, ◌%◌, ◌^◌, ◌<◌, ◌++◌, [], ◌∷◌, Ok, Err, None, Some, codes, false, is_some, length, map, replicate, slice_index, true};
 ghost use Rattle.std.specs.List.{range_with_len};
 ghost use Rattle.argon.specs.Argon2.{argon2_tag, first_hash, matrix_block, stored_block_by_j1_j2};
 ghost use Rattle.argon.specs.Buffer.{block_held, column_number_after_slices};
 ghost use Rattle.argon.specs.Filling.{next_slice};
-ghost use Rattle.argon.specs.Laws.{after_lane_turns, lane_turns_work};
-ghost use Rattle.argon.specs.Plan.{independent_reference_place};
-ghost use Rattle.argon.specs.Woven.{is_column_made, with_next_slice};
+ghost use Rattle.argon.specs.Laws.{after_lane_turns, lane_turn_work, lane_turns_work};
+ghost use Rattle.argon.specs.Plan.{entry_at, independent_reference_place, independent_reference_word};
+ghost use Rattle.argon.specs.Woven.{first_column, is_column_made, with_next_slice, woven};
 ghost use Rattle.argon.specs.Compression.{compression};
 ghost use Rattle.argon.specs.Counts.{address_blocks_made_at, column_work, first_index, segment_work, slice_work, work};
 ghost use Rattle.argon.specs.Inputs.{InputsFitParameters, inputs_of};
 ghost use Rattle.argon.specs.Kind.{type_number};
 ghost use Rattle.argon.specs.Range.{admission, checked_parameters, checked_with_any_password_length};
-ghost use Rattle.argon.specs.Reference.{is_independent, reference_lane, reference_number, reference_set, reference_words, relative_place};
+ghost use Rattle.argon.specs.Reference.{address_block, is_independent, reference_lane, reference_number, reference_set, reference_words, relative_place};
 ghost use Rattle.four_words.specs.Words.{xored_words};
 ghost use Rattle.argon.specs.Vectors.{two_lane_sample_parameters};
 ghost use Rattle.argon.specs.SliceProgress.{after_step, lane_work_left, new_slice_progress, next_column_number, next_index_in_segment, work_left};
@@ -542,4 +542,30 @@ fn slice_made_by_lanes()
     ensures made { map (is_column_made (record { parameters = (record two_lane_sample_parameters { memory_kib = 16 }); is_started = true; first_hash = []; slices_made = 5; blocks = map (λ place. place ∷ []) (range_with_len 0 16) }) (2 ∷ 1 ∷ []) 1) (range_with_len 0 5) ≡ false ∷ false ∷ true ∷ false ∷ false ∷ [] }
     ensures whole_slice { (with_next_slice (record { parameters = (record two_lane_sample_parameters { memory_kib = 16 }); is_started = true; first_hash = []; slices_made = 5; blocks = map (λ place. place ∷ []) (range_with_len 0 16) })).blocks ≡ map (λ place. place ∷ []) (range_with_len 0 2) ++ matrix_block (record two_lane_sample_parameters { memory_kib = 16 }) [] 10 0 ∷ matrix_block (record two_lane_sample_parameters { memory_kib = 16 }) [] 11 0 ∷ map (λ place. place ∷ []) (range_with_len 4 6) ++ matrix_block (record two_lane_sample_parameters { memory_kib = 16 }) [] 10 1 ∷ matrix_block (record two_lane_sample_parameters { memory_kib = 16 }) [] 11 1 ∷ map (λ place. place ∷ []) (range_with_len 12 4) }
     ensures slices_made { (with_next_slice (record { parameters = (record two_lane_sample_parameters { memory_kib = 16 }); is_started = true; first_hash = []; slices_made = 5; blocks = map (λ place. place ∷ []) (range_with_len 0 16) })).slices_made ≡ 6 }
+{}
+
+// The slices of both ends of a pass, counted by hand by RFC 9106, 3.4: each segment has two columns, and the first two of the
+// first pass come from H_0.
+fn slices_of_passes()
+    ensures first_columns { map (λ slices. first_column (record { parameters = (record two_lane_sample_parameters { memory_kib = 16 }); is_started = true; first_hash = []; slices_made = slices; blocks = [] })) (0 ∷ 1 ∷ 3 ∷ 4 ∷ 6 ∷ 8 ∷ []) ≡ 2 ∷ 2 ∷ 6 ∷ 0 ∷ 4 ∷ 0 ∷ [] }
+    ensures next_slice { next_slice (record { parameters = (record two_lane_sample_parameters { memory_kib = 16 }); is_started = true; first_hash = []; slices_made = 4; blocks = [] }) ≡ Some (1, 0) }
+    ensures left { map (λ slices. (new_slice_progress (record { parameters = (record two_lane_sample_parameters { memory_kib = 16 }); is_started = true; first_hash = []; slices_made = slices; blocks = [] })).left) (1 ∷ 3 ∷ 4 ∷ 8 ∷ []) ≡ replicate 4 (2 ∷ 2 ∷ []) }
+    ensures left_of_three_lanes { (new_slice_progress (record { parameters = (record two_lane_sample_parameters { lanes = 3; memory_kib = 24 }); is_started = true; first_hash = []; slices_made = 4; blocks = [] })).left ≡ 2 ∷ 2 ∷ 2 ∷ [] }
+    ensures next_numbers { map (λ slices. next_column_number (record { matrix = record { parameters = (record two_lane_sample_parameters { memory_kib = 16 }); is_started = true; first_hash = []; slices_made = slices; blocks = [] }; left = 2 ∷ 1 ∷ [] }) 1) (6 ∷ 9 ∷ []) ≡ 13 ∷ 19 ∷ [] }
+    ensures work_of_turns { map (λ slices. lane_turn_work (record { matrix = record { parameters = (record two_lane_sample_parameters { kind = 2 }); is_started = true; first_hash = []; slices_made = slices; blocks = [] }; left = 73 ∷ 0 ∷ [] }) 0) (range_with_len 0 6) ≡ 3 ∷ 3 ∷ 1 ∷ 1 ∷ 1 ∷ 1 ∷ [] }
+    ensures no_turn { lane_turn_work (record { matrix = record { parameters = (record two_lane_sample_parameters { memory_kib = 16 }); is_started = true; first_hash = []; slices_made = 1; blocks = [] }; left = 73 ∷ 0 ∷ [] }) 1 ≡ 0 }
+    ensures no_block_after_more_turns { (after_lane_turns (record { matrix = record { parameters = (record two_lane_sample_parameters { memory_kib = 16 }); is_started = true; first_hash = []; slices_made = 5; blocks = map (λ place. place ∷ []) (range_with_len 0 16) }; left = 0 ∷ 0 ∷ [] }) (0 ∷ 1 ∷ [])).matrix.blocks ≡ map (λ place. place ∷ []) (range_with_len 0 16) }
+    ensures planned_lanes { map (λ index. (independent_reference_place two_lane_sample_parameters 0 1 0 index).lane) (range_with_len 2 4) ≡ replicate 4 1 }
+    ensures planned_lanes_later { map (λ index. (independent_reference_place two_lane_sample_parameters 1 0 0 index).lane) (range_with_len 0 6)
+        ≡ map (λ index. independent_reference_word two_lane_sample_parameters 1 0 0 index / 2 ^ 32 % 2) (range_with_len 0 6) }
+    ensures planned_column { (independent_reference_place two_lane_sample_parameters 0 1 3 5).column
+        ≡ reference_number two_lane_sample_parameters 0 1 3 5 (independent_reference_word two_lane_sample_parameters 0 1 3 5) % 804 }
+    ensures planned_words { map (independent_reference_word two_lane_sample_parameters 2 1 3) (127 ∷ 128 ∷ [])
+        ≡ slice_index (address_block two_lane_sample_parameters 2 1 3 1) 127 ∷ slice_index (address_block two_lane_sample_parameters 2 1 3 2) 0 ∷ [] }
+    ensures words { map (λ index. reference_words two_lane_sample_parameters 2 1 3 index []) (127 ∷ 128 ∷ [])
+        ≡ slice_index (address_block two_lane_sample_parameters 2 1 3 1) 127 ∷ slice_index (address_block two_lane_sample_parameters 2 1 3 2) 0 ∷ [] }
+    ensures no_entry { entry_at [] 0 ≡ record { lane = 0; column = 0 } }
+    ensures work_of_one_lane { work (record two_lane_sample_parameters { kind = 2; lanes = 1; memory_kib = 804 }) ≡ 2418 }
+    ensures block_of_pass_1 { (woven (record { parameters = (record two_lane_sample_parameters { kind = 0; lanes = 1; memory_kib = 8 }); is_started = true; first_hash = []; slices_made = 4; blocks = map (λ place. place ∷ []) (range_with_len 0 8) }) (1 ∷ [])).matrix.blocks ≡ matrix_block (record two_lane_sample_parameters { kind = 0; lanes = 1; memory_kib = 8 }) [] 8 0 ∷ map (λ place. place ∷ []) (range_with_len 1 7) }
+    ensures block_of_slice_2 { (woven (record { parameters = (record two_lane_sample_parameters { kind = 0; lanes = 1; memory_kib = 8 }); is_started = true; first_hash = []; slices_made = 6; blocks = map (λ place. place ∷ []) (range_with_len 0 8) }) (1 ∷ [])).matrix.blocks ≡ map (λ place. place ∷ []) (range_with_len 0 4) ++ matrix_block (record two_lane_sample_parameters { kind = 0; lanes = 1; memory_kib = 8 }) [] 12 0 ∷ map (λ place. place ∷ []) (range_with_len 5 3) }
 {}
