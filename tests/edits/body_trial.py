@@ -143,10 +143,11 @@ def without_search(folder, places, texts):
 
 
 def closed_by_search(crate, edits, folder, kept):
-    """The goals of each function that these edits change that the search closes: those that a check without it leaves open."""
+    """The goals of each function that these edits change that the search closes: those that a check without it leaves open.
+    None where that is not read."""
     texts = without_search(crate.folder, changed(edits), {})
     found = shared(crate, texts, dict.fromkeys(changed(edits)), folder, kept, {})
-    return {place: sorted(names(goals)) for place, goals in (found or {}).items()}
+    return found if found is None else {place: sorted(names(goals)) for place, goals in found.items()}
 
 
 def by_types(crate, edit, kept):

@@ -66,8 +66,9 @@ class Run:
         """Whether it is known what the search closes of what a crate's edits change; the check of it leaves what stands below."""
         it, begun = self.crates[name], time.monotonic()
         it.known = body_trial.closed_by_search(it.crate, it.edits, f"{self.room}/{name}/sources", f"{it.crate.folder}/out/incremental")
-        self.say(f"{name}: {'seen' if it.known else 'not read'} as it is, {time.monotonic() - begun:.0f} s", None if it.known else name)
-        return bool(it.known)
+        is_read = it.known is not None
+        self.say(f"{name}: {'seen' if is_read else 'not read'} as it is, {time.monotonic() - begun:.0f} s", None if is_read else name)
+        return is_read
 
     def attempt(self, name, group):
         """Tries a group over what the crate keeps, and judges what came of it."""
