@@ -2,8 +2,8 @@
 """What no contract sees, by rules over the calls of the compiled code (tests/shared/compiled.py), which a layout, a name or
 a macro cannot hide from:
 
-memory      only a source takes memory, be it by a list that grows: a method of a trait ..Memory, which takes no more than
-            it holds, in one place, and in no loop
+memory      only a source takes memory, be it by a list that grows: a method of one of four traits, which takes that of which it
+            is given the number or the bytes, in one place, in no loop, and by no other source
 heap        what has the heap passes it on: it has no loop, and names no function of ours twice
 system      only system_calls comes to a function of C, but to those that take and free memory; and nothing is called by
             a table or a pointer to a function
@@ -42,6 +42,9 @@ OTHERS = re.compile(r"\w+_tests|memory_host|memory_system|command")  # have no p
 TAKES = {("C", "rattle_alloc"), ("C", "rattle_realloc"), *(("?", f"core::alloc::Allocator::{it}") for it in ("allocate", "grow"))}
 HEAP_OF_C = TAKES | {("C", "rattle_dealloc")}
 SPARE = re.compile(r"reserve|with_capacity|grow")  # takes more than it holds
+SOURCES = {"argon::matrix_memory::MatrixMemory", "argon_text::decode_memory::DecodeMemory", "argon_text::text_memory::TextMemory",
+           "romix::reservation::WorkspaceMemory"}
+HANDS_ON = {"Opd", "AddrOf", "Repeat", "Aggregate"}  # what makes a value of others without computing
 HEAP = "std_heap::Global"
 SYSTEM = "system_calls::"
 COUNTS = frozenset({"counter::Count::new"})
@@ -119,6 +122,25 @@ def by_bytes(function, others):
         yield "answers" if kinds[0] == "Bool" else "returns" if isinstance(kinds[0], dict) and "Int" in kinds[0] else ""
 
 
+def hands_on(function, given):
+    """Whether what is given to a call is what the function was given itself, or stands in its text: nothing that it computed, or
+    that another call may have changed."""
+    made, of, left = collections.defaultdict(list), set(), [given]
+    for it in nodes(function["body"]):
+        if "Assign" in it or "Call" in it:
+            to, value = it["Assign"] if "Assign" in it else (it["Call"][2], it)
+            made[to["local"]].append(value)
+    while left:
+        part = left.pop()
+        for local in {it["local"] for it in nodes(part) if "local" in it} - of:
+            of.add(local)
+            left += made[local]
+            if len(made[local]) != (local > function["params"]) or any(HANDS_ON.isdisjoint(it) for it in made[local]):
+                return False
+    lent = [(to, it["AddrOf"]) for to, values in made.items() for it in values if "AddrOf" in it]
+    return all(to in of for to, place in lent if place["local"] in of and not any("Deref" in it for it in place["steps"]))
+
+
 @functools.lru_cache(maxsize=None)
 def compares_bytes(code, name):
     """Whether a function of the toolchain's compares two bytes, neither of which is in its text."""
@@ -153,9 +175,15 @@ class Rules:
     def memory(self, name, function, reached):
         taking = [it for it in self.code.calls(self.code.open(name))
                   if it in TAKES or not self.code.is_own(it[0]) and TAKES & self.code.beyond(it)]
-        is_source = "Memory::" in self.code.traits_of.get(name, "")
-        if not (is_source and len(taking) == 1 and "Loop" not in function["body"] and not SPARE.search(taking[0][0])):
+        is_source = self.is_source(name)
+        given = [it["Call"][1] for it in nodes(function["body"]) if "Call" in it and self.code.callee(it["Call"][0], self.code.open(name)[1]) in taking]
+        takes_given = len(taking) == len(given) == 1 and hands_on(function, given[0]) and "Loop" not in function["body"]
+        if not (is_source and takes_given and not SPARE.search(taking[0][0])):
             yield from sorted({kind if kind not in ("C", "?") else of for kind, of in taking})
+        yield from sorted(it for it in self.called(name) if is_source and self.is_source(it))
+
+    def is_source(self, name):
+        return self.code.traits_of.get(name, "").rpartition("::")[0] in SOURCES
 
     def heap(self, name, function, reached):
         if any(HEAP in types_in(it["ty"]) for it in function["locals"]):

@@ -13,7 +13,7 @@ import sys
 import tempfile
 
 import calls
-from compiled import Code
+from compiled import Code, nodes
 from tree import TOP
 
 BYTE, WORD = {"Int": 8}, {"Int": 64}
@@ -98,6 +98,16 @@ def time_of_a_byte(*steps):
     return put
 
 
+def amount(*steps):
+    """Has a source take a number of its own, a new local to which these steps come, each a function of it."""
+    def put(function):
+        count = new(function, WORD)
+        taking = next(it["Call"] for it in nodes(function["body"]) if "Call" in it and "from_elem" in str(it["Call"][0]))
+        taking[1][-1] = copied(count)
+        first(*(it(count) for it in steps))(function)
+    return put
+
+
 def want_of_memory(kind):
     """A refusal for want of memory that nothing asked for."""
     def put(function):
@@ -107,12 +117,19 @@ def want_of_memory(kind):
 
 
 CLONE = impl("std_alloc::string::methods::StringClone", impl("std_heap::GlobalAllocator"), impl("core::clone::Clone+copy"), impl("argon::Destruct++none"))
+BLOCKS = "argon::matrix_memory::GlobalMatrixMemory::blocks"
 BRANCH, STREAM = first(branch(copied(1, {"Deref": BYTE}))), "pikhsen_c::stream::PikhsenStream::begin"
 # A rule, the function, and what is put into it.
 TRIALS = [
     ("memory", "argon2_words::request::read_request", first(call((CLONE, 0)))),  # a copy of a word
     ("memory", "argon2_words::request::read_request", first(call("libc::heap::rattle_alloc"))),
     ("memory", "argon2_command::run_memory::GlobalRunMemory::matrix", first(call((CLONE, 0)), call((CLONE, 0)))),  # a source, twice
+    ("memory", "pikhsen_c::heap::HeapCallMemory::text", first(call((CLONE, 0)))),  # a trait that is called as a source is
+    ("memory", BLOCKS, first(call(BLOCKS.replace("blocks", "numbers")))),  # a source by another
+    ("memory", BLOCKS, amount(lambda count: assign(count, {"Op2": ["WrapMul", copied(2), number(4)]}))),
+    ("memory", BLOCKS, amount(lambda count: assign(count, {"Opd": copied(2)}), lambda count: assign(count, {"Opd": number(1 << 40)}))),
+    ("memory", BLOCKS, amount(lambda count: call("core::int::u64::saturating_add", copied(2), to=count))),
+    ("memory", BLOCKS, amount(lambda count: assign(count, {"Opd": copied(2)}), lambda count: assign(1, {"AddrOf": place(count)}))),
     ("heap", "argon2_command::run::argon2", first(call(
         "argon2_command::run::run_without_report", by=[impl("argon2_command::run_memory::GlobalRunMemory"), {"Given": 0}]))),
     ("system", "scrypt_run::encrypt::start", first(call("libc::write"))),
