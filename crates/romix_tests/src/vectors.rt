@@ -1,13 +1,13 @@
 //! Vectors that the checker computes by the definitions alone.
 ghost use Rattle.std.specs.Prelude.{◌≡◌, ◌+◌, ◌-◌, ◌*◌, ◌^◌, ◌++◌, [], ◌∷◌, codes, filter, if◌then◌else◌, replicate, true, false, Some, None};
 ghost use Rattle.std.specs.List.{range_with_len};
-ghost use Rattle.romix.specs.BlockMix.{block_mix};
+ghost use Rattle.romix.specs.BlockMix.{block_count, block_mix};
 ghost use Rattle.romix.specs.Costs.{cores, parts_bytes, table_bytes};
 ghost use Rattle.romix.specs.Faults.{cost_fault, keep_parameter_fault, limit_fault, sparse_limit_fault};
 ghost use Rattle.romix.specs.Requests.{after_table_and_row_requests};
 ghost use Rattle.romix.specs.Romix.{integerify, romix};
 ghost use Rattle.romix.specs.Salsa20.{quarter_round, salsa20_8};
-ghost use Rattle.romix.specs.Scrypt.{scrypt};
+ghost use Rattle.romix.specs.Scrypt.{scrypt, words_of};
 ghost use Rattle.romix.specs.Sparse.{sparse_table_core_count};
 ghost use Rattle.romix.specs.SparseCosts.{cores_bound, is_valid_keep, sparse_table_bytes, whole};
 ghost use Rattle.romix.specs.declared.fault.CostFault.TheVariants.{Keep, KeepAboveN, LogN, Memory, Product, Work, Zero};
@@ -116,12 +116,14 @@ fn scrypt_of_six_blocks()
         0xC9 ∷ 0x6B ∷ 0x34 ∷ 0xEC ∷ 0x77 ∷ 0x92 ∷ 0xAD ∷ 0xDE ∷
         0xEC ∷ 0x79 ∷ 0x8D ∷ 0x27 ∷ 0x34 ∷ 0x5E ∷ 0xED ∷ 0x4D ∷
         0xBB ∷ 0xF9 ∷ 0x33 ∷ 0xDE ∷ 0x1E ∷ 0xC3 ∷ 0x12 ∷ 0xE2 ∷ [] }
+    ensures two_bytes { scrypt (codes "password") (codes "NaCl") 2 3 1 2 ≡ 0x5E ∷ 0x74 ∷ [] }
 {}
 
 // The cores of a derivation of two parts where every second row of V is kept, and where one of four is. A program in Python that
 // makes the rows between again, and gives the key of hashlib.scrypt, counted them.
 fn sparse_cores_of_two_parts()
     ensures keep_2 { sparse_table_core_count (replicate 65 0x70) (codes "s") (record { costs = record { log_n = 2; r = 2; p = 2 }; keep = 2 }) ≡ 80 }
+    ensures of_eight_rows { sparse_table_core_count (codes "pw") (codes "salt") (record { costs = record { log_n = 3; r = 1; p = 2 }; keep = 4 }) ≡ 116 }
     ensures keep_4 { sparse_table_core_count (replicate 65 0x70) (codes "s") (record { costs = record { log_n = 2; r = 2; p = 2 }; keep = 4 }) ≡ 112 }
 {}
 
@@ -132,6 +134,7 @@ fn numbers_of_costs()
     ensures cores { cores (record { log_n = 4; r = 3; p = 5 }) ≡ 960 }
     ensures sparse_table { sparse_table_bytes (record { costs = record { log_n = 4; r = 3; p = 5 }; keep = 4 }) ≡ 1536 }
     ensures bound { cores_bound (record { costs = record { log_n = 4; r = 3; p = 5 }; keep = 4 }) ≡ 2400 }
+    ensures bound_of_32_rows { cores_bound (record { costs = record { log_n = 5; r = 3; p = 5 }; keep = 4 }) ≡ 4800 }
     ensures bound_of_whole { cores_bound (record { costs = record { log_n = 4; r = 3; p = 5 }; keep = 1 }) ≡ 960 }
 {}
 
@@ -149,6 +152,7 @@ fn faults_of_costs()
 // The limits at 6144 bytes of V and 960 cores, at 1920 bytes of B, and where both are exceeded; and S.
 fn faults_of_limits()
     ensures admitted { limit_fault (record { log_n = 4; r = 3; p = 5 }) (record { max_bytes = 6144; max_ops = 960 }) ≡ None }
+    ensures parts_admitted { limit_fault (record { log_n = 1; r = 3; p = 5 }) (record { max_bytes = 1920; max_ops = 120 }) ≡ None }
     ensures memory { limit_fault (record { log_n = 4; r = 3; p = 5 }) (record { max_bytes = 6143; max_ops = 959 }) ≡ Some Memory }
     ensures work { limit_fault (record { log_n = 4; r = 3; p = 5 }) (record { max_bytes = 6144; max_ops = 959 }) ≡ Some Work }
     ensures parts { limit_fault (record { log_n = 1; r = 3; p = 5 }) (record { max_bytes = 1919; max_ops = 960 }) ≡ Some Memory }
@@ -175,4 +179,10 @@ fn requests_of_a_workspace()
     ensures whole { whole (record { log_n = 4; r = 3; p = 5 }) ≡ record { costs = record { log_n = 4; r = 3; p = 5 }; keep = 1 } }
     ensures table { after_table_and_row_requests (λ asked words granted. (if granted then words else 0) ∷ asked) (record { costs = record { log_n = 4; r = 3; p = 5 }; keep = 4 }) [] 0 true ≡ 384 ∷ [] }
     ensures rows { after_table_and_row_requests (λ asked words granted. (if granted then words else 0) ∷ asked) (record { costs = record { log_n = 4; r = 3; p = 5 }; keep = 4 }) [] 2 false ≡ 0 ∷ 96 ∷ 384 ∷ [] }
+{}
+
+// A row of r = 8, 1,024 octets or 256 words, has 16 blocks (RFC 7914, 4); four octets are a word, the lowest first.
+fn blocks_and_words_of_a_row()
+    ensures words { words_of (range_with_len 1 8) 2 ≡ 0x04030201 ∷ 0x08070605 ∷ [] }
+    ensures count { block_count (replicate 256 0) ≡ 16 }
 {}

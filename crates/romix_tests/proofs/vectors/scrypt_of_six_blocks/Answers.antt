@@ -10,4 +10,4 @@ use Rattle.romix_tests.proofs.vectors.scrypt_of_six_blocks.Goals as goal
 
 pub returns : goal.returns
 unfolding compress digest_bytes first_words hash_after rounds schedule sha256 hmac_sha256 key_block joined_blocks pbkdf2 block_mix block_mix_x_after every_second_output integerify romix romix_row_after_turns row_of_v double_rounds quarter_round quarter_round_at quarter_rounds salsa20_8 parts_after_romix scrypt words_of
-returns c = record { key = refl }
+returns c = record { key = refl; two_bytes = refl }

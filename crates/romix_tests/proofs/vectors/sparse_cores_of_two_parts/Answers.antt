@@ -11,4 +11,4 @@ use Rattle.romix_tests.proofs.vectors.sparse_cores_of_two_parts.Goals as goal
 
 pub returns : goal.returns
 unfolding compress digest_bytes first_words hash_after rounds schedule sha256 hmac_sha256 key_block joined_blocks pbkdf2 block_mix block_mix_x_after every_second_output integerify romix_row_after_turns row_of_v double_rounds quarter_round quarter_round_at quarter_rounds salsa20_8 words_of mix_count_from_kept_rows mixes block_mix_count_of_parts sparse_table_core_count
-returns c = record { keep_2 = refl; keep_4 = refl }
+returns c = record { keep_2 = refl; of_eight_rows = refl; keep_4 = refl }
