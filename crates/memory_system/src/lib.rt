@@ -7,6 +7,7 @@ mod failure_counts;
 mod memory_source;
 mod system;
 mod unbounded_count;
+mod vectors;
 
 pub use contents::{Contents, Identities};
 pub use system::{IDENTITY_OF_CREATED_OUTPUT, MemorySystem};

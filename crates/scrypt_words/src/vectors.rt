@@ -27,6 +27,10 @@ fn limits()
         Ok (decrypt (record (task_with_default_limits (file (codes "pw")) (Some (codes "F5")) None) { limits = record { max_bytes = 2 ^ 32; max_ops = 63 } })) }
     ensures greatest { scrypt_request (typed (codes "dec -M 1099511627776 --maxops 9223372036854775807 -P F5")) ≡
         Ok (decrypt (record (task_with_default_limits stdin_once (Some (codes "F5")) None) { limits = record { max_bytes = 2 ^ 40; max_ops = 2 ^ 63 - 1 } })) }
+    ensures least { scrypt_request (typed (codes "dec -M 1 --maxops 1 -P F5")) ≡
+        Ok (decrypt (record (task_with_default_limits stdin_once (Some (codes "F5")) None) { limits = record { max_bytes = 1; max_ops = 1 } })) }
+    ensures stdin_named { scrypt_request (typed (codes "dec --passphrase dev:stdin-once F5")) ≡
+        Ok (decrypt (task_with_default_limits stdin_once (Some (codes "F5")) None)) }
     ensures leading_zeros { scrypt_request (typed (codes "dec -M 00000000000000002048 -P F5")) ≡
         Ok (decrypt (record (task_with_default_limits stdin_once (Some (codes "F5")) None) { limits = record { max_bytes = 2048; max_ops = 2 ^ 33 } })) }
     ensures no_bytes { scrypt_request (typed (codes "dec -M 0 -P F5")) ≡ Err Usage }
@@ -93,6 +97,9 @@ fn refusals()
     ensures stdin_twice_without_outfile { scrypt_request (typed (codes "dec -P -")) ≡ Err StandardInputTwice }
     ensures stdin_named { scrypt_request (typed (codes "dec --passphrase dev:stdin-once - out")) ≡
         Err StandardInputTwice }
+    ensures file_without_a_name { scrypt_request (typed (codes "dec --passphrase file: a")) ≡ Err PassphraseSource }
+    ensures long_name_of_a_letter { scrypt_request (typed (codes "dec --M 2048 -P a")) ≡ Err Usage }
+    ensures long_name_of_the_flag { scrypt_request (typed (codes "dec --P a")) ≡ Err Usage }
     ensures some_costs { scrypt_request (typed (codes "enc --logN 4 --passphrase file:pw a b")) ≡
         Err SomeCosts }
     ensures two_costs { scrypt_request (typed (codes "enc -r 8 -p 1 --passphrase file:pw a b")) ≡
