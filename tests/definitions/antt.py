@@ -3,7 +3,6 @@ over patterns, numbers, texts, records, `λ`, `let`, `if`, `do`, and operators. 
 
     Definitions().value_in(module, "scrypt_key")    what a text comes to, by the names that a file imports
 """
-import copy
 import pathlib
 import re
 import shutil
@@ -215,22 +214,26 @@ class Reader:
 
 
 class Module:
-    """A file of specs/: what it imports, its cases, and the clauses of each name."""
+    """A file of specs/: what it imports, its cases, the clauses of each name and what its type says, and those parts of types
+    and records that stand together."""
 
     def __init__(self, name, text):
         self.name, self.text = name, text
         self.imports = imports(text)
-        self.clauses, self.cases, self.kept, self.unread = {}, set(), set(), {}
+        self.clauses, self.cases, self.kept, self.unread, self.types, self.together = {}, set(), set(), {}, {}, []
         for part in re.split(r"\n(?=[^\s})])", re.sub(r"(?m)^\s*--.*\n?", "", text)):
             self.take(part)
 
     def take(self, part):
-        if re.match(r"(pub )?(use|mod|record) |infix|#", part) or not part.strip():
+        if re.match(r"(pub )?(use|mod) |infix|#", part) or not part.strip():
             return
-        if re.match(r"(pub )?data ", part):
-            self.cases |= {*re.findall(r"\n\s+(?:pub )?(\S+) :", part)}
+        if of_type := re.match(r"(?:pub )?(data|record) ", part):
+            parts = dict(re.findall(r"\n\s+(?:pub )?(\S+) : (.*)", part))
+            self.together.append(parts)
+            self.cases |= {*parts} if of_type[1] == "data" else set()
         elif begun := BEGUN.match(part):
             self.kept |= {begun[1]} if part.startswith("unfoldable") else set()
+            self.types[begun[1]] = " ".join(part[begun.end():].split())
         else:
             self.take_clause(part)
 
@@ -252,45 +255,61 @@ class Module:
 
 
 class Definition:
-    """A name with its clauses, and what these come to once it is asked for."""
+    """A name with its clauses, and what these come to once it is asked for. It keeps its values if it is unfoldable or takes no
+    arguments."""
 
     def __init__(self, all_of_them, module, name):
-        self.all, self.module, self.name, self.call = all_of_them, module, name, None
-        self.clauses = module.clauses[name]
-        self.count = len(self.clauses[0][0])
+        self.all, self.module, self.name = all_of_them, module, name
+        self.count = len(module.clauses[name][0][0])
+        self.is_kept = name in module.kept or not self.count
+        self.uses = set()  # the definitions that its clauses name
+        self.put(module.clauses[name])
+
+    def put(self, clauses):
+        self.clauses, self.call, self.values = clauses, None, {}
 
     def __call__(self, *arguments):
+        self.all.steps -= 1
+        if self.all.steps < 0:
+            raise Unreadable(f"{self.name}: too many steps")
         if self.call is None:
-            self.call = Translation(self.all, self.module).program(self)
-        return self.call(*arguments)
+            self.call = Translation(self.all, self.module, self).program()
+        if not self.is_kept and not self.values:
+            return self.call(*arguments)
+        if arguments not in self.values:
+            value = self.call(*arguments)
+            if not self.is_kept:
+                return value
+            self.values[arguments] = value
+        return self.values[arguments]
 
 
 class Translation:
     """The expressions of a module in Python. A name of it is a variable there, or one of `known`."""
 
-    def __init__(self, all_of_them, module):
-        self.all, self.module, self.cases, self.count = all_of_them, module, module.cases, 0
-        self.known = {it.__name__: it for it in (Case, Record, Function, applied, Unreadable)}
+    def __init__(self, all_of_them, module, definition=None):
+        self.all, self.module, self.cases, self.count, self.definition = all_of_them, module, module.cases, 0, definition
+        self.known = {it.__name__: it for it in (Case, Record, Function, applied, Unreadable)} | {"asked": all_of_them.asked}
 
     def fresh(self):
         self.count += 1
         return f"v{self.count}"
 
-    def program(self, definition):
-        """A definition as a function of its arguments, which keeps its values if it is unfoldable or has none."""
+    def program(self):
+        """A definition as a function of its arguments, which notes what clauses are asked for."""
+        definition = self.definition
         arguments = [self.fresh() for _ in range(definition.count)]
         lines = [f"def program({', '.join(arguments)}):"]
-        for patterns, value, self.cases in definition.clauses:
+        for number, (patterns, value, self.cases) in enumerate(definition.clauses):
             tests, names, own = [], {}, []
             for argument, pattern in zip(arguments, patterns):
                 self.match(pattern, argument, tests, own, names)
             lines.append(f"    if {' and '.join(tests) or 'True'}:")
-            lines += [f"        {it}" for it in own]
+            lines += [f"        {it}" for it in [*own, f"asked.add({(definition.module.name, definition.name, number)!r})"]]
             lines.append(f"        return {self.python(value, names)}")
         lines.append(f"    raise Unreadable({definition.name!r} + ' has no clause for these arguments')")
         exec(compile("\n".join(lines), f"<{definition.module.name}.{definition.name}>", "exec"), self.known)
-        is_kept = definition.name in definition.module.kept or not arguments
-        return kept(self.known["program"]) if is_kept else self.known["program"]
+        return self.known["program"]
 
     def match(self, pattern, at, tests, own, names):
         """What a value must meet to be of a pattern, and the names that it gives."""
@@ -340,11 +359,16 @@ class Translation:
             return repr(value)
         name = self.fresh()
         self.known[name] = value
+        self.note(value)
         if isinstance(value, Definition):
             if value.count == 0:
                 return f"{name}()"
             self.known[name] = Function(value.count, value)
         return name
+
+    def note(self, value):
+        if self.definition and isinstance(value, Definition):
+            self.definition.uses.add(value)
 
     def of_field(self, names, of, name):
         if of[0] == "name" and of[1] not in names:
@@ -391,20 +415,9 @@ class Translation:
         if isinstance(meaning, Definition) and meaning.count == len(given):
             name = self.fresh()
             self.known[name] = meaning
+            self.note(meaning)
             return f"{name}({', '.join(given)})"
         return f"applied({', '.join([self.python(head, names), *given])})"
-
-
-def kept(program):
-    """A function that keeps its values."""
-    values = {}
-
-    def call(*arguments):
-        if arguments not in values:
-            values[arguments] = program(*arguments)
-        return values[arguments]
-
-    return call
 
 
 class Definitions:
@@ -412,21 +425,12 @@ class Definitions:
 
     def __init__(self):
         start = pathlib.Path(subprocess.run([shutil.which("rt"), "doc"], capture_output=True, text=True, check=True).stdout.strip())
-        self.modules, self.found = {}, {}
+        self.modules, self.found, self.asked, self.steps = {}, {}, set(), 1 << 40
         files = {f"clap.specs.{it.stem}": it for it in start.parent.glob("rattle/clap/specs/*.antt")}
         for it in CRATES.glob("*/specs/**/*.antt"):
             files[".".join(it.relative_to(CRATES).with_suffix("").parts)] = it
         for name, path in files.items():
             self.modules[name] = Module(name, path.read_text(encoding="utf-8"))
-
-    def with_texts(self, texts):
-        """The same with other texts in the place of some files, by their paths."""
-        other = copy.copy(self)
-        other.modules, other.found = dict(self.modules), {}
-        for path, text in texts.items():
-            name = ".".join(path.relative_to(CRATES).with_suffix("").parts)
-            other.modules[name] = Module(name, text)
-        return other
 
     def home(self, module, name):
         """The module and the name that a name of a file stands for."""
@@ -466,9 +470,20 @@ class Definitions:
 
     def value_in(self, module, text):
         """What a text comes to, by the names that a file has."""
+        return self.program_of(module, text)()
+
+    def call_in(self, module, text):
+        """The definition that a text calls, by the names that a file has, and its arguments as programs."""
+        _, head, given = Reader(tokens(text)).whole()
+        return self.meaning(module, head[1]), [self.program_of_term(module, it) for it in given]
+
+    def program_of(self, module, text):
+        return self.program_of_term(module, Reader(tokens(text)).whole())
+
+    def program_of_term(self, module, term):
         translation = Translation(self, module)
-        python = translation.python(Reader(tokens(text)).whole(), {})
-        return eval(python, translation.known)
+        python = translation.python(term, {})
+        return eval(f"lambda: {python}", translation.known)
 
 
 def is_declared(place):

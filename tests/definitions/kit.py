@@ -29,6 +29,12 @@ def replicated(times, item):
     return (item,) * times
 
 
+def counted(start, count):
+    if count > 1 << 22:
+        raise OverflowError(f"a list of {count}")
+    return tuple(range(start, start + count))
+
+
 def folded(step, value, items):
     for it in items:
         value = applied(step, value, it)
@@ -103,7 +109,7 @@ WORDS = {
     # lists
     "◌∷◌": (2, lambda first, others: (first,) + others), "◌++◌": (2, lambda a, b: a + b), "length": (1, len),
     "take": (2, lambda count, items: items[:count]), "drop": (2, lambda count, items: items[count:]),
-    "replicate": (2, replicated), "range_with_len": (2, lambda start, count: tuple(range(start, start + count))),
+    "replicate": (2, replicated), "range_with_len": (2, counted),
     "map": (2, lambda change, items: tuple(applied(change, it) for it in items)), "fold": (3, folded),
     "filter": (2, lambda test, items: tuple(it for it in items if applied(test, it))),
     "flat_map": (2, lambda change, items: tuple(it for part in items for it in applied(change, part))),

@@ -1,9 +1,7 @@
-"""Edits that must fail: what each puts in the place of what, what that changes, and the goal that refuses it.
+"""Wrong bodies, edits that the prover must refuse (body_trial.py): what each puts in the place of what, what that changes, and
+the goal that refuses it.
 
-    a wrong body         crates/CRATE/wrong-bodies/        the prover must refuse it (body_trial.py)
-    a wrong definition   crates/CRATE/wrong-definitions/   an equation must refuse it (tests/definitions/run.py)
-
-They stand many to a file, NAME.edits, one file for each source or definition that they are about:
+They stand in crates/CRATE/wrong-bodies/, many to a file, NAME.edits, one file for each source that they are about:
 
     file: src/costs.rt                 what each edit of this file has, to the first blank line
 
@@ -26,8 +24,8 @@ from functions import function_at, text_of
 from specs import CRATES
 from tree import TOP
 
-BODIES, DEFINITIONS = "wrong-bodies", "wrong-definitions"
-FIRST = ("holds", "types", "vector")  # what an edit says before it names a file
+BODIES = "wrong-bodies"
+FIRST = ("holds", "types")  # what an edit says before it names a file
 GOAL = "\nrefused: "
 ANSWERS = re.compile(r"proofs/(.*)/(?:Answers|Invariants)\.antt")
 
@@ -52,7 +50,6 @@ class Edit:
         self.goal, self.holds = said.get("refused", ""), [*promises_in(said.get("holds", ""), self.folder.name)]
         self.types = said.get("types", "").strip()  # the error of the types that refuses it, where it names one
         self.within = said.get("in", "").strip()  # the function whose proof must refuse it, where it changes no body
-        self.vector = said.get("vector", "").strip()
         self.files = sorted({file for file, _, _ in self.pairs})
 
     def put(self, texts, folder=None):
@@ -120,17 +117,17 @@ def sections(text):
         yield name, [*own[:at], *file, *own[at:]]
 
 
-def edits_in(folder, kind=Edit):
+def edits_in(folder):
     """The edits that a folder holds, by their names."""
     files = sorted(pathlib.Path(folder).glob("*.edits"))
-    found = [kind(path, *it) for path in files for it in sections(path.read_text(encoding="utf-8"))]
+    found = [Edit(path, *it) for path in files for it in sections(path.read_text(encoding="utf-8"))]
     if len({it.stem for it in found}) < len(found):
         raise ValueError(f"{folder}: two edits have one name")
     return sorted(found, key=lambda it: it.stem)
 
 
-def edits_of(crate, folder, kind=Edit):
-    return edits_in(TOP / "crates" / crate / folder, kind)
+def edits_of(crate, folder):
+    return edits_in(TOP / "crates" / crate / folder)
 
 
 def write_goal(edit, goal):

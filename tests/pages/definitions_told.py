@@ -25,9 +25,9 @@ sys.path += map(str, pathlib.Path(__file__).resolve().parents[1].iterdir())  # t
 import contracts
 import specs
 import values_table
-from definitions import CLAUSE, VECTOR
 from functions import text_of
 from specs import CRATES, TOP, WORD, File, reached
+from vectors import CLAUSE, VECTOR
 
 # The calls whose definitions have to be told: of programs, commands, a login, and the functions for C.
 CALLS = [

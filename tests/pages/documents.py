@@ -18,9 +18,9 @@ import pages
 import promises
 import tree
 from checking import is_there, left_out, said
-from definitions import Definitions, wrong_definitions_of
 from edits import BODIES, edits_of
 from promises import CRATES, IN_BACKTICKS
+from specs import all_files
 from tree import TOP, VERSION, read
 
 PAGES = sorted(TOP.glob("*.md"))
@@ -37,8 +37,7 @@ GOAL = re.compile(
     r"`(?:returns|\S+-requires|loop-\S+|\S+-(?:init|preserved|smaller)|invariant_of-)[^`]*`"
     r"(?:, at its answer)?|the lemma \w+|the types: .+"
 )
-DEFINITIONS = Definitions()
-DEFINED = {module: {*file.items, *file.fields} for module, file in DEFINITIONS.files.items()}
+DEFINED = {module: {*file.items, *file.fields} for module, file in all_files().items()}
 
 
 @functools.lru_cache(maxsize=None)
@@ -152,8 +151,6 @@ def goals():
         if not told or clause and clause[1] not in clauses:
             yield f"{edit.name}: refused: {edit.goal}: the goal that refuses it " \
                   f"(tests/edits/refusals.py --told {edit.name} writes it)"
-    for crate in CRATES:
-        yield from (f"{it.name}: {it.wrong}" for it in wrong_definitions_of(crate, DEFINITIONS) if it.wrong)
 
 
 def made_parts():

@@ -2,7 +2,7 @@
 //! which is proved by computing both sides. So the definitions are run, and not the code.
 ghost use Rattle.std.specs.Prelude.{◌≡◌, ◌+◌, ◌-◌, ◌*◌, ◌/◌, ◌%◌, ◌^◌, ◌<◌, ◌++◌, [], ◌∷◌, Ok, Err, None, Some, codes, false, is_some, length, map, replicate, slice_index, true};
 ghost use Rattle.std.specs.List.{range_with_len};
-ghost use Rattle.argon.specs.Argon2.{argon2_tag, first_hash, matrix_block, stored_block_by_j1_j2};
+ghost use Rattle.argon.specs.Argon2.{argon2_tag, first_hash, matrix_block, next_block, stored_block_by_j1_j2};
 ghost use Rattle.argon.specs.Buffer.{block_held, column_number_after_slices};
 ghost use Rattle.argon.specs.Filling.{next_slice};
 ghost use Rattle.argon.specs.Laws.{after_lane_turns, lane_turn_work, lane_turns_work};
@@ -413,6 +413,10 @@ fn blocks_that_g_takes()
         compression (2 ∷ 1 ∷ []) (1 ∷ 1 ∷ []) }
     ensures version_0x10 { stored_block_by_j1_j2 (record two_lane_sample_parameters { version = 0x10; lanes = 3; memory_kib = 48 }) (λ number lane. number ∷ lane ∷ []) 39 2 0 1 3 (5 * 2 ^ 32 + 2 ^ 31 - 1) ≡
         compression (38 ∷ 0 ∷ []) (33 ∷ 2 ∷ []) }
+    ensures by_number { next_block (record two_lane_sample_parameters { lanes = 3; memory_kib = 48 }) (λ number lane. number ∷ lane ∷ []) 39 0
+        ≡ stored_block_by_j1_j2 (record two_lane_sample_parameters { lanes = 3; memory_kib = 48 }) (λ number lane. number ∷ lane ∷ []) 39 2 0 1 3 (reference_words (record two_lane_sample_parameters { lanes = 3; memory_kib = 48 }) 2 0 1 3 (38 ∷ 0 ∷ [])) }
+    ensures by_another_number { next_block (record two_lane_sample_parameters { lanes = 3; memory_kib = 48 }) (λ number lane. number ∷ lane ∷ []) 46 1
+        ≡ stored_block_by_j1_j2 (record two_lane_sample_parameters { lanes = 3; memory_kib = 48 }) (λ number lane. number ∷ lane ∷ []) 46 2 1 3 2 (reference_words (record two_lane_sample_parameters { lanes = 3; memory_kib = 48 }) 2 1 3 2 (45 ∷ 1 ∷ [])) }
 {}
 
 // The numbers y of the types (RFC 9106, 3.1).
@@ -558,12 +562,14 @@ fn slices_of_passes()
     ensures planned_lanes { map (λ index. (independent_reference_place two_lane_sample_parameters 0 1 0 index).lane) (range_with_len 2 4) ≡ replicate 4 1 }
     ensures planned_lanes_later { map (λ index. (independent_reference_place two_lane_sample_parameters 1 0 0 index).lane) (range_with_len 0 6)
         ≡ map (λ index. independent_reference_word two_lane_sample_parameters 1 0 0 index / 2 ^ 32 % 2) (range_with_len 0 6) }
-    ensures planned_column { (independent_reference_place two_lane_sample_parameters 0 1 3 5).column
-        ≡ reference_number two_lane_sample_parameters 0 1 3 5 (independent_reference_word two_lane_sample_parameters 0 1 3 5) % 804 }
+    ensures planned_column { (independent_reference_place two_lane_sample_parameters 0 1 1 5).column
+        ≡ reference_number two_lane_sample_parameters 0 1 1 5 (independent_reference_word two_lane_sample_parameters 0 1 1 5) % 804 }
     ensures planned_words { map (independent_reference_word two_lane_sample_parameters 2 1 3) (127 ∷ 128 ∷ [])
         ≡ slice_index (address_block two_lane_sample_parameters 2 1 3 1) 127 ∷ slice_index (address_block two_lane_sample_parameters 2 1 3 2) 0 ∷ [] }
     ensures words { map (λ index. reference_words two_lane_sample_parameters 2 1 3 index []) (127 ∷ 128 ∷ [])
         ≡ slice_index (address_block two_lane_sample_parameters 2 1 3 1) 127 ∷ slice_index (address_block two_lane_sample_parameters 2 1 3 2) 0 ∷ [] }
+    ensures word_of_the_block_before { reference_words (record two_lane_sample_parameters { kind = 2 }) 1 0 0 5 (9 ∷ []) ≡ 9 }
+    ensures word_of_the_block_before_in_slice_2 { reference_words (record two_lane_sample_parameters { kind = 2 }) 0 1 2 1 (9 ∷ []) ≡ 9 }
     ensures no_entry { entry_at [] 0 ≡ record { lane = 0; column = 0 } }
     ensures work_of_one_lane { work (record two_lane_sample_parameters { kind = 2; lanes = 1; memory_kib = 804 }) ≡ 2418 }
     ensures block_of_pass_1 { (woven (record { parameters = (record two_lane_sample_parameters { kind = 0; lanes = 1; memory_kib = 8 }); is_started = true; first_hash = []; slices_made = 4; blocks = map (λ place. place ∷ []) (range_with_len 0 8) }) (1 ∷ [])).matrix.blocks ≡ matrix_block (record two_lane_sample_parameters { kind = 0; lanes = 1; memory_kib = 8 }) [] 8 0 ∷ map (λ place. place ∷ []) (range_with_len 1 7) }

@@ -1,11 +1,12 @@
 //! The definitions, run on what the reference program and RFC 4648 give.
-ghost use Rattle.std.specs.Prelude.{◌≡◌, ◌-◌, ◌^◌, ℕ, List, [], ◌∷◌, None, Some, codes, true, false, filter, is_some, map, replicate};
+ghost use Rattle.std.specs.Prelude.{◌≡◌, ◌-◌, ◌^◌, ℕ, List, [], ◌∷◌, Err, None, Ok, Some, codes, true, false, filter, is_some, map, replicate};
 ghost use Rattle.std.specs.List.{range_with_len};
 ghost use Rattle.argon.specs.Argon2.{argon2_tag};
 ghost use Rattle.argon_text.specs.Base64.{alphabet, base64_bytes, is_base64, is_symbol};
 ghost use Rattle.argon_text.specs.EncodedText.{encoded_text, kind_name, short_text};
-ghost use Rattle.argon_text.specs.Grammar.{HasFields, fields_of_value, is_number, value_of_fields};
-ghost use Rattle.argon_text.specs.Reading.{fields_at};
+ghost use Rattle.argon_text.specs.Grammar.{HasFields, fields_of_value, fields_text, is_number, value_of_fields};
+ghost use Rattle.argon_text.specs.Reading.{fields_at, is_granted};
+ghost use Rattle.base64.specs.declared.decode.DecodeAllocError.TheVariants as decoding;
 ghost use Rattle.argon_text.specs.Settings.{first_field_range_fault, first_encoded_range_fault, settings_of_encoded_value};
 ghost use Rattle.argon_text.specs.Value.{are_in_range, is_in_range};
 ghost use Rattle.argon_text.specs.Verifying.{keyed_verify_fault, keyed_tag, parameters_of_value, tag_of_password, verify_fault};
@@ -37,6 +38,8 @@ fn fields_taken_apart()
 // The fields as which the known value is written, with its version.
 fn fields_of_known_value()
     ensures fields { fields_of_value sample_encoded_value ≡ sample_encoded_fields }
+    ensures numbers { fields_of_value (record sample_encoded_value { passes = 2; lanes = 3 })
+        ≡ record sample_encoded_fields { passes = codes "2"; lanes = codes "3" } }
 {}
 
 // A value of version 0x10 has two texts, and the fields of the short one say it.
@@ -73,6 +76,7 @@ fn forms_of_numbers()
 // place; and texts whose bytes Python's base64 gives.
 fn base64_of_the_standard()
     ensures nothing { base64_bytes [] ≡ [] }
+    ensures one_symbol { base64_bytes (codes "Z") ≡ [] }
     ensures two_symbols { base64_bytes (codes "Zg") ≡ codes "f" }
     ensures three_symbols { base64_bytes (codes "Zm8") ≡ codes "fo" }
     ensures four_symbols { base64_bytes (codes "Zm9v") ≡ codes "foo" }
@@ -137,6 +141,12 @@ fn tag_of_the_known_password()
         }) ≡ sample_encoded_value.tag → tag_of_password sample_encoded_value (codes "password") ≡ sample_encoded_value.tag }
 {}
 
+// Memory is granted to a text that is decoded, and where it is not decoded for another reason.
+fn memory_of_decoding()
+    ensures granted { is_granted {A = ℕ} (Ok 7) ≡ true }
+    ensures refused { is_granted {A = ℕ} (Err decoding.OutOfMemory) ≡ false }
+{}
+
 // Secret and associated data each go to their own place (RFC 9106, 3.1: K and X).
 fn tag_with_a_secret()
     ensures tag { (tag : List ℕ) → argon2_tag
@@ -156,6 +166,27 @@ fn tag_with_a_secret()
           secret = codes "k";
           associated = codes "x";
         }) ≡ tag → keyed_tag sample_encoded_value (codes "password") (codes "k") (codes "x") ≡ tag }
+{}
+
+// Without them there are none.
+fn tag_of_a_password()
+    ensures tag { (tag : List ℕ) → argon2_tag
+        (record {
+          kind = 0;
+          version = 0x13;
+          passes = 1;
+          lanes = 1;
+          memory_kib = 8;
+          tag_len = 32;
+          salt_len = 8;
+          password_len = 8;
+        })
+        (record {
+          password = codes "password";
+          salt = codes "somesalt";
+          secret = [];
+          associated = [];
+        }) ≡ tag → tag_of_password sample_encoded_value (codes "password") ≡ tag }
 {}
 
 // RFC 9106, 3.1: the ends of each range, and then one number beyond an end, where all else is in range. The ends of salt and
@@ -237,4 +268,10 @@ fn settings_of_a_value()
         ≡ record { kind = Id; version = 19; memory = 64; passes = 3; lanes = 2; salt_len = 10; tag_len = 9 } }
     ensures parameters { parameters_of_value (record { kind = Id; version = 19; memory = 64; passes = 3; lanes = 2; salt = replicate 10 1; tag = replicate 9 2 }) (codes "pw")
         ≡ record { kind = 2; version = 19; passes = 3; lanes = 2; memory_kib = 64; tag_len = 9; salt_len = 10; password_len = 2 } }
+{}
+
+// The texts of these fields, with a version and without.
+fn texts_of_fields()
+    ensures with_version { fields_text sample_encoded_fields ≡ sample_encoded_text }
+    ensures without_version { fields_text old_short_fields ≡ old_short_text }
 {}

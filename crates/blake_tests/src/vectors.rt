@@ -169,8 +169,8 @@ fn words_and_counts_by_hand()
     ensures two_words { words 2 (1 ∷ replicate 7 0 ++ 2 ∷ replicate 7 0) ≡ 1 ∷ 2 ∷ [] }
     ensures sum { word_sum (2 ^ 64 - 1) 2 ≡ 1 }
     ensures half_of_the_sum { word_sum (2 ^ 63) (2 ^ 63 + 5) ≡ 5 }
-    ensures high_count { drop 8 (work_vector (replicate 8 0) (3 * 2 ^ 64 + 5) false) ≡
+    ensures high_count { drop 8 (work_vector (replicate 8 0) (3 * 2 ^ 64 + 2 ^ 63 + 5) false) ≡
         0x6A09E667F3BCC908 ∷ 0xBB67AE8584CAA73B ∷ 0x3C6EF372FE94F82B ∷ 0xA54FF53A5F1D36F1 ∷
-        0x510E527FADE682D4 ∷ 0x9B05688C2B3E6C1C ∷ 0x1F83D9ABFB41BD6B ∷ 0x5BE0CD19137E2179 ∷ [] }
+        0xD10E527FADE682D4 ∷ 0x9B05688C2B3E6C1C ∷ 0x1F83D9ABFB41BD6B ∷ 0x5BE0CD19137E2179 ∷ [] }
     ensures fewer_words { with_words_at (1 ∷ 2 ∷ []) (0 ∷ []) [] ≡ 1 ∷ 2 ∷ [] }
 {}

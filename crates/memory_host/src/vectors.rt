@@ -32,6 +32,10 @@ fn hosts_after_calls()
     ensures salted { (memory_host_state (record (new_host_in_memory [] [] []) { salted = true })).salted ≡ true }
     ensures granted { memory_host_grants (record (new_host_in_memory [] [] []) { input_opened = Some None; readable = true; output_asked = Some None; output_opened = Some None; asked = Some stdin_once; salted = true })
         ≡ record { input = false; readable = true; output = false; writable = true; secret = false; salt = false } }
+    ensures granted_to_pull { memory_host_grants (record (new_host_in_memory [] [] []) { readable = true })
+        ≡ record { input = true; readable = true; output = true; writable = false; secret = true; salt = true } }
+    ensures granted_after_a_secret { memory_host_grants (record (new_host_in_memory [] [] []) { asked = Some stdin_once })
+        ≡ record { input = true; readable = false; output = true; writable = false; secret = false; salt = true } }
     ensures granted_before_it_opens { memory_host_grants (record (new_host_in_memory [] [] []) { output_asked = Some None })
         ≡ record { input = true; readable = false; output = false; writable = false; secret = true; salt = true } }
     ensures granted_of_an_input { memory_host_grants (record (new_host_in_memory [] [] []) { input_opened = Some None })

@@ -207,6 +207,7 @@ fn value_of_the_reference_program()
 fn refusals_of_a_key()
     ensures log_n { scrypt_status (costs_of_numbers 0 0 0) 3 0 0 (2 ^ 40) ≡ 17 }
     ensures zero { scrypt_status (costs_of_numbers 4 0 1) 3 0 0 (2 ^ 40) ≡ 18 }
+    ensures zero_p { scrypt_status (costs_of_numbers 4 1 0) 3 0 0 (2 ^ 40) ≡ 18 }
     ensures product { scrypt_status (costs_of_numbers 4 32768 32768) 3 0 0 (2 ^ 40) ≡ 19 }
     ensures length { scrypt_status (costs_of_numbers 4 1 1) 3 0 0 (32 * (2 ^ 32 - 1) + 1) ≡ 13 }
     ensures keep { scrypt_status (costs_of_numbers 4 1 1) 3 0 0 (32 * (2 ^ 32 - 1)) ≡ 20 }
@@ -217,6 +218,7 @@ fn refusals_of_a_key()
     ensures greatest { scrypt_status (costs_of_numbers 33 1 1) 1 (2 ^ 63) (2 ^ 63) 32 ≡ 0 }
     ensures above_2_40_bytes { scrypt_status (costs_of_numbers 34 1 1) 1 (2 ^ 63) (2 ^ 63) 32 ≡ 7 }
     ensures bytes_below { (limits_of_numbers 2048 64).max_bytes ≡ 2048 }
+    ensures greatest_bytes { (limits_of_numbers (2 ^ 40 - 1) 64).max_bytes ≡ 2 ^ 40 - 1 }
     ensures bytes_above { (limits_of_numbers (2 ^ 40 + 1) 64).max_bytes ≡ 2 ^ 40 }
     ensures cores { (limits_of_numbers 2048 64).max_ops ≡ 64 }
 {}
@@ -278,10 +280,10 @@ fn texts_with_a_tag_of_zeros()
 
 // The cores are those of the same costs, salt and S in `romix`, where they are not computed again.
 fn cores_of_calls()
-    ensures key { salsa20_cores_of_numbers (codes "pw") (codes "s") 2 3 5 4 ≡
-        sparse_table_core_count (codes "pw") (codes "s") (record { costs = record { log_n = 2; r = 3; p = 5 }; keep = 4 }) }
-    ensures file { salsa20_cores_to_open (codes "pw") front_of_hello 2 ≡
-        sparse_table_core_count (codes "pw") (range_with_len 0 32) (record { costs = record { log_n = 4; r = 1; p = 1 }; keep = 2 }) }
+    ensures key { salsa20_cores_of_numbers (codes "pw") (codes "salt") 2 3 5 4 ≡
+        sparse_table_core_count (codes "pw") (codes "salt") (record { costs = record { log_n = 2; r = 3; p = 5 }; keep = 4 }) }
+    ensures file { salsa20_cores_to_open (codes "pw") front_of_hello 16 ≡
+        sparse_table_core_count (codes "pw") (range_with_len 0 32) (record { costs = record { log_n = 4; r = 1; p = 1 }; keep = 16 }) }
 {}
 
 // A request that was granted counts there, and one that was refused here.

@@ -123,7 +123,7 @@ fn scrypt_of_six_blocks()
 // makes the rows between again, and gives the key of hashlib.scrypt, counted them.
 fn sparse_cores_of_two_parts()
     ensures keep_2 { sparse_table_core_count (replicate 65 0x70) (codes "s") (record { costs = record { log_n = 2; r = 2; p = 2 }; keep = 2 }) ≡ 80 }
-    ensures of_eight_rows { sparse_table_core_count (codes "pw") (codes "salt") (record { costs = record { log_n = 3; r = 1; p = 2 }; keep = 4 }) ≡ 116 }
+    ensures of_eight_rows { sparse_table_core_count (codes "pw") (codes "salt") (record { costs = record { log_n = 3; r = 1; p = 2 }; keep = 8 }) ≡ 164 }
     ensures keep_4 { sparse_table_core_count (replicate 65 0x70) (codes "s") (record { costs = record { log_n = 2; r = 2; p = 2 }; keep = 4 }) ≡ 112 }
 {}
 

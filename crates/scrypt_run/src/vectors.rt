@@ -106,13 +106,14 @@ fn costs_of_runs()
 {}
 
 // What a run makes of a file, by `encfile`, where that is not computed again: the final code is decided with the last byte of
-// the text, the first 96 bytes stand before those after them, and a task has the limits.
+// the text, the first 96 bytes (here with N = 2, r and p 1) stand before those after them, and a task has the limits.
 fn files_of_runs()
-    ensures whole { decided (codes "pw") (codes "salt") (record { log_n = 4; r = 1; p = 2 }) 2 (codes "ab") ≡
-        encrypted_file (codes "pw") (codes "salt") (record { log_n = 4; r = 1; p = 2 }) (codes "ab") }
-    ensures part { decided (codes "pw") (codes "salt") (record { log_n = 4; r = 1; p = 2 }) 3 (codes "ab") ≡
-        body (codes "pw") (codes "salt") (record { log_n = 4; r = 1; p = 2 }) (codes "ab") }
-    ensures text { released_text_of_header_and_rest (codes "pw") (codes "ab") (codes "cd") ≡ released_text (codes "abcd") (codes "pw") }
+    ensures whole { decided (codes "word") (codes "salt") (record { log_n = 4; r = 1; p = 2 }) 2 (codes "ab") ≡
+        encrypted_file (codes "word") (codes "salt") (record { log_n = 4; r = 1; p = 2 }) (codes "ab") }
+    ensures part { decided (codes "word") (codes "salt") (record { log_n = 4; r = 1; p = 2 }) 3 (codes "ab") ≡
+        body (codes "word") (codes "salt") (record { log_n = 4; r = 1; p = 2 }) (codes "ab") }
+    ensures text { released_text_of_header_and_rest (codes "pw") (replicate 7 0 ++ 1 ∷ 0 ∷ 0 ∷ 0 ∷ 1 ∷ 0 ∷ 0 ∷ 0 ∷ 1 ∷ replicate 80 5) (replicate 33 2) ≡
+        released_text (replicate 7 0 ++ 1 ∷ 0 ∷ 0 ∷ 0 ∷ 1 ∷ 0 ∷ 0 ∷ 0 ∷ 1 ∷ replicate 80 5 ++ replicate 33 2) (codes "pw") }
     ensures refusal { front_refusal_of (sample_task 4 3 2) sample_host (codes "pw") ≡
         front_refusal (codes "abcd") (record { limits = record { max_bytes = 3; max_ops = 2 }; keep = 4 }) (codes "pw") }
 {}

@@ -139,6 +139,9 @@ fn failures_by_kind()
 fn hosts_over_systems()
     ensures input { (host_over (record placeholder_state { input = record { opened = Some None; left = codes "a"; is_ended = false } })).input ≡ codes "a" }
     ensures input_opened { (host_over (record placeholder_state { input = record { opened = Some None; left = codes "a"; is_ended = false } })).input_opened ≡ Some None }
+    ensures input_is_stdin { (host_over (record placeholder_state { input_is_stdin = true })).input_is_stdin ≡ true }
+    ensures rest_of_stdin { rest_of_secret_stream stdin_once 1 (record placeholder_state { stdin = Some (range_with_len 0 40) }) ≡ range_with_len 1 39 }
+    ensures rest_of_file { rest_of_secret_stream (file (codes "a")) 1 (record placeholder_state { files = record { name = codes "a"; bytes = range_with_len 0 40 } ∷ [] }) ≡ range_with_len 1 39 }
     ensures written { (host_over (record placeholder_state { output = codes "out" })).output ≡ codes "out" }
     ensures asked_output { (host_over (record placeholder_state { output_asked = Some None })).output_asked ≡ Some None }
     ensures not_writable { (host_over (record placeholder_state { output_asked = Some None })).output_opened ≡ None }

@@ -6,6 +6,7 @@ pub returns : goal.returns
 unfolding is_base64 base64_bytes symbol_value
 returns c = record {
   nothing = refl;
+  one_symbol = refl;
   two_symbols = refl;
   three_symbols = refl;
   four_symbols = refl;

@@ -6,4 +6,4 @@ use Rattle.argon_text_tests.proofs.vectors.fields_of_known_value.Goals as goal
 
 pub returns : goal.returns
 unfolding base64_text digits encode_symbols
-returns c = record { fields = refl }
+returns c = record { fields = refl; numbers = refl }
