@@ -2,8 +2,9 @@
 
 Edits share a check: each as a copy of its function beside the right one, with a copy of its proofs, or in its place where a
 trait has the function. The check must leave each goal open at which one of them is refused, as its line says, and none of
-these in the right bodies. Searches take most of the time: so what the search closes in the right body, and is not asked for,
-gets an answer that the prover refuses at once (NO_GOAL). An edit that is not refused so is tried by itself, with all goals.
+these in a right body with answers by hand. Searches take most of the time: so what the search closes in the right body, and is
+not asked for, gets an answer that the prover refuses at once (NO_GOAL). An edit that is not refused so is tried by itself, with
+all goals.
 
 An answer by hand that fails shows little, as the goal could close without it: so an edit is refused "at its answer" only where
 the search, which stands beside that answer as another (BY_SEARCH), fails, too. Where an answer names what the edit took away,
@@ -264,14 +265,15 @@ class Group:
 
 
 def in_groups(crate, edits):
-    """The edits in groups that share a check, in one of which the right body of each function that they change is tried, too."""
+    """The edits in groups that share a check, in one of which the right body of each function that they change is tried, too, if
+    it has answers by hand: what the search closes in a right body, it closes in a copy."""
     groups = []
     for edit in edits:
         if not any(it.take(edit) for it in groups):
             groups.append(Group(crate, edits))
             groups[-1].take(edit)
     for place in changed(edits):
-        if not any(it.take_right(place, edits) for it in groups):
+        if text_of(crate.folder, answers_of(place), {}) and not any(it.take_right(place, edits) for it in groups):
             groups.append(Group(crate, edits))
             groups[-1].take_right(place, edits)
     return groups
