@@ -109,9 +109,10 @@ class Run:
         for crate in needed:
             it, name, first = self.crates[crate.name], crate.name, (crate.name, "proof")
             waits = [(made.name, "library") for made in [*crate.below(), crate] if made in built]
-            put(first, crate, 9, waits, lambda jobs, name=name: self.look(name))
+            if body_trial.changed(it.edits):  # none is, where the types refuse each
+                put(first, crate, 9, waits, lambda jobs, name=name: self.look(name))
             for at, group in enumerate(body_trial.in_groups(crate, it.edits)):
-                put((name, "edits", at), crate, len(group.tried), [first],
+                put((name, "edits", at), crate, len(group.tried), [first] if first in found else waits,
                     lambda jobs, name=name, group=group: self.attempt(name, group))
         return found
 
