@@ -3,7 +3,7 @@
 a macro cannot hide from:
 
 memory      only a source takes memory, be it by a list that grows: a method of one of four traits, which takes that of which it
-            is given the number or the bytes, in one place, in no loop, and by no other source
+            is given the number or the bytes, in one place, in no loop; and who asks a source has a row
 heap        what has the heap passes it on: it has no loop, and names no function of ours twice
 system      only system_calls comes to a function of C, but to those that take and free memory; and nothing is called by
             a table or a pointer to a function
@@ -180,10 +180,11 @@ class Rules:
         takes_given = len(taking) == len(given) == 1 and hands_on(function, given[0]) and "Loop" not in function["body"]
         if not (is_source and takes_given and not SPARE.search(taking[0][0])):
             yield from sorted({kind if kind not in ("C", "?") else of for kind, of in taking})
-        yield from sorted(it for it in self.called(name) if is_source and self.is_source(it))
+        asked = {other if kind == "?" else kind for kind, other in self.code.calls(self.code.open(name))}
+        yield from sorted(f"asks {it}" for it in asked if self.is_source(it))
 
     def is_source(self, name):
-        return self.code.traits_of.get(name, "").rpartition("::")[0] in SOURCES
+        return self.code.traits_of.get(name, name).rpartition("::")[0] in SOURCES
 
     def heap(self, name, function, reached):
         if any(HEAP in types_in(it["ty"]) for it in function["locals"]):

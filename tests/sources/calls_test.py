@@ -126,6 +126,7 @@ TRIALS = [
     ("memory", "argon2_command::run_memory::GlobalRunMemory::matrix", first(call((CLONE, 0)), call((CLONE, 0)))),  # a source, twice
     ("memory", "pikhsen_c::heap::HeapCallMemory::text", first(call((CLONE, 0)))),  # a trait that is called as a source is
     ("memory", BLOCKS, first(call(BLOCKS.replace("blocks", "numbers")))),  # a source by another
+    ("memory", "pikhsen_c::argon2::pikhsen_argon2_hash", first(call("argon_text::decode_memory::GlobalDecodeMemory::decode_base64"))),
     ("memory", BLOCKS, amount(lambda count: assign(count, {"Op2": ["WrapMul", copied(2), number(4)]}))),
     ("memory", BLOCKS, amount(lambda count: assign(count, {"Opd": copied(2)}), lambda count: assign(count, {"Opd": number(1 << 40)}))),
     ("memory", BLOCKS, amount(lambda count: call("core::int::u64::saturating_add", copied(2), to=count))),
